@@ -1,0 +1,6 @@
+pub mod Query
+pub mod Points
+pub mod Order
+pub mod Best
+pub mod Places
+pub mod Spelling

@@ -1,0 +1,4 @@
+pub mod Command
+pub mod Plain
+pub mod Run
+pub mod Promise
