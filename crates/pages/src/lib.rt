@@ -1,1 +1,5 @@
-// placeholder
+// Pages of 512 bytes and the numbers on them.
+mod numbers;
+
+pub use numbers::are_bytes;
+pub use numbers::number;

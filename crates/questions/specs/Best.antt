@@ -42,4 +42,4 @@ rising (g ∷ h ∷ hs) = ltb (g .doc) (h .doc) && rising (h ∷ hs)
 unfoldable pub refusal : (hits out : List ℕ) (k : ℕ) → ℕ
 refusal hits out k =
     pick (leb 1 (length hits) && (leb (getD hits 0 0) 65536 && leb (1 + 2 * getD hits 0 0) (length hits)))
-        (pick (rising (all-hits hits)) (pick (leb (2 * smaller k (getD hits 0 0)) (length out)) 0 3) 2) 1
+    (pick (rising (all-hits hits)) (pick (leb (2 * smaller k (getD hits 0 0)) (length out)) 0 3) 2) 1

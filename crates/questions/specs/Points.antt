@@ -37,8 +37,8 @@ times-in w ws = length (those (same w) ws)
 unfoldable pub how-often : Doc → Sought → ℕ
 how-often d s =
     pick (eqb (s .field) 1) (3 * times-in (s .sought) (words (d .title)))
-        (pick (eqb (s .field) 2) (times-in (s .sought) (words (d .body)))
-            (3 * times-in (s .sought) (words (d .title)) + times-in (s .sought) (words (d .body))))
+    (pick (eqb (s .field) 2) (times-in (s .sought) (words (d .body)))
+    (3 * times-in (s .sought) (words (d .title)) + times-in (s .sought) (words (d .body))))
 
 -- how many of the documents have it
 abbrev pub having : List Doc → Sought → ℕ

@@ -11,12 +11,12 @@ use Rattle.documents.specs.Document.{Doc}
 -- where one looks: 0 in both, 1 in the title, 2 in the body
 pub data Query : Type 0 where
   word : ℕ → List ℕ → Query
-  phrase : ℕ → List (List ℕ) → Query       -- these words one after the other
-  begins : ℕ → List ℕ → Query              -- a word that begins so
-  near : ℕ → List ℕ → List ℕ → Query       -- both words in the body, at most so many places apart
+  phrase : ℕ → List (List ℕ) → Query  -- these words one after the other
+  begins : ℕ → List ℕ → Query  -- a word that begins so
+  near : ℕ → List ℕ → List ℕ → Query  -- both words in the body, at most so many places apart
   both : Query → Query → Query
   either : Query → Query → Query
-  but : Query → Query → Query              -- the first and not the second
+  but : Query → Query → Query  -- the first and not the second
 
 abbrev pub fields : ℕ → Doc → List (List (List ℕ))
 fields f d = pick (eqb f 1) (words (d .title) ∷ []) (pick (eqb f 2) (words (d .body) ∷ []) (words (d .title) ∷ words (d .body) ∷ []))

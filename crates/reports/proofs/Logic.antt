@@ -145,8 +145,8 @@ module _ {S : Type 0} (may : S → List ℕ → List (List ℕ) → ℕ → ℕ 
   halfway s t s₂ o full (inr q) f cs =
       let m : may s t (o .showed ++ q .2 .0) (full .pages-used) (full .end) s₂ = subst (λ (x : List (List ℕ)). may s t x (full .pages-used) (full .end) s₂) (sym (q .2 .1)) (f .0) in
       elim (q .1 cs) [
-        inl d ↦ (s, inr (q .0, q .2 .0, full .pages-used, full .end, s₂, m, inl refl), d)
-      | inr d ↦ (s₂, inr (q .0, q .2 .0, full .pages-used, full .end, s₂, m, inr refl), d)
+        | inl d ↦ (s, inr (q .0, q .2 .0, full .pages-used, full .end, s₂, m, inl refl), d)
+        | inr d ↦ (s₂, inr (q .0, q .2 .0, full .pages-used, full .end, s₂, m, inr refl), d)
       ]
 
   pub right : (is : List Item) (up : Bool) (v : World) (s : S) → Here up v s → proper up is ≡ true → Right may after e v s is

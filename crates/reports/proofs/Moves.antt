@@ -49,7 +49,6 @@ module _ {St : Type 0} (enc : St → List ℕ) (move : St → Moved St) (deliver
     (at-page : (st : St) (p : List ℕ) → e .step (enc st) (page p) ≡ loop enc move fuel (deliver st p))
     (at-next : (st : St) → e .step (enc st) next ≡ loop enc move fuel st)
     (Safe : Device → Type 0) (Fin : St → Device → List (List ℕ) → ℕ → ℕ → Type 0) where
-
   pub Safe-here : World → Type 0
   Safe-here w = Safe (w .device)
 

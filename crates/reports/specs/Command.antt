@@ -10,13 +10,13 @@ use Rattle.questions.specs.Query.{Query, word, phrase, begins, near, both, eith
 use Rattle.questions.specs.Spelling.{query-spelled, a-word, a-question}
 
 pub data Command : Type 0 where
-  put : ℕ → List ℕ → List ℕ → Command      -- a name, a title, a body
+  put : ℕ → List ℕ → List ℕ → Command  -- a name, a title, a body
   remove : ℕ → Command
-  note : Command                            -- what was put and removed is there from now on
-  ask : ℕ → Query → Command                 -- the best so many
+  note : Command  -- what was put and removed is there from now on
+  ask : ℕ → Query → Command  -- the best so many
   how-many : Query → Command
-  fetch : ℕ → Command                       -- a document
-  list-words : List ℕ → ℕ → Command         -- words that begin so, the first so many, and how many documents have each
+  fetch : ℕ → Command  -- a document
+  list-words : List ℕ → ℕ → Command  -- words that begin so, the first so many, and how many documents have each
   sweep : Command
 
 unfoldable pub spelled : Command → List ℕ

@@ -61,7 +61,7 @@ turn w (put n t b) =
     record { reply = 0; shows = []; next = record { asked = w .asked; coming = put-doc (record { name = n; title = t; body = b }) (others n (w .coming)); gone = (w .gone) ++ named n (w .coming) } }
 turn w (remove n) =
     pick (none-of (named n (w .coming))) (record { reply = 3; shows = []; next = w })
-        (record { reply = 0; shows = []; next = record { asked = w .asked; coming = others n (w .coming); gone = (w .gone) ++ named n (w .coming) } })
+    (record { reply = 0; shows = []; next = record { asked = w .asked; coming = others n (w .coming); gone = (w .gone) ++ named n (w .coming) } })
 turn w note = record { reply = 0; shows = []; next = record { asked = w .coming; coming = w .coming; gone = w .gone } }
 turn w (ask k q) = record { reply = 0; shows = each hit-row (first-hits k (found (w .asked) q)); next = w }
 turn w (how-many q) = record { reply = 0; shows = eight (length (those (λ d. matches d q) (w .asked))) ∷ []; next = w }

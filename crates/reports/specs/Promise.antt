@@ -52,7 +52,7 @@ unfoldable pub Whole : (Command → Bool) → Engine → Type 0
 Whole known e =
     Steady e
     × ((pages : ℕ) (is : List Item) → 256 ≤ pages → pages ≤ 16777216 → length is ≤ 4294967296 → proper false is ≡ true →
-        Right (May known pages) after-stop e (new-world pages) (record { asked = []; coming = []; gone = [] }) is)
+    Right (May known pages) after-stop e (new-world pages) (record { asked = []; coming = []; gone = [] }) is)
 
 -- 1. No two commands are spelled alike.
 unfoldable pub Spelled-once : Type 0
