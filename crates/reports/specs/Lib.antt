@@ -1,4 +1,5 @@
 pub mod Command
+pub mod Reading
 pub mod Plain
 pub mod Run
 pub mod Promise
