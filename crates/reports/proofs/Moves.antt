@@ -30,8 +30,8 @@ unfolding moves
 moves-keep enc move P goes-keep acts-keep zero st h = (st, refl, h)
 moves-keep {St} enc move P goes-keep acts-keep (suc f) st h =
     let after : (m : Moved St) → move st ≡ m → (st₁ : St) × (after-move enc (moves enc move f) m .memory ≡ enc st₁) × P st₁ =
-        λ m. elim m as (λ x. move st ≡ x → (st₁ : St) × (after-move enc (moves enc move f) x .memory ≡ enc st₁) × P st₁)
-        [ goes st₁ ↦ λ q. moves-keep enc move P goes-keep acts-keep f st₁ (goes-keep st st₁ q h) | acts st₁ a ↦ λ q. (st₁, refl, acts-keep st st₁ a q h) ] in
+    λ m. elim m as (λ x. move st ≡ x → (st₁ : St) × (after-move enc (moves enc move f) x .memory ≡ enc st₁) × P st₁)
+    [ goes st₁ ↦ λ q. moves-keep enc move P goes-keep acts-keep f st₁ (goes-keep st st₁ q h) | acts st₁ a ↦ λ q. (st₁, refl, acts-keep st st₁ a q h) ] in
     after (move st) refl
 
 -- RUNS WELL, by moves: a tree of what happens, with every device along it safe. A flush may come after any move, when the count is out, so at each
@@ -54,7 +54,6 @@ module _ {St : Type 0} (enc : St → List ℕ) (move : St → Moved St) (deliver
     (at-page : (st : St) (p : List ℕ) → Fits st → e .step (enc st) (page p) ≡ moves enc move (suc fuel) (deliver st p))
     (at-next : (st : St) → Fits st → e .step (enc st) next ≡ moves enc move (suc fuel) st)
     (Safe : Device → Type 0) (Fin : St → Device → List (List ℕ) → ℕ → ℕ → Type 0) where
-
   abbrev pub Safe-here : World → Type 0
   Safe-here w = Safe (w .device)
 

@@ -141,9 +141,11 @@ same-number a b = ⊎-elim (λ l. inr (λ q. omega arith)) (λ l. ⊎-elim (λ m
 
 pub steady : Steady own
 unfolding Steady own
-steady =
-    (omega (arith, length-zeros cells), zeros-zero cells,
-        λ m ev. ⊎-elim
-        (λ h. (step-length m ev h, step-small m ev h))
-        (λ h. (ap length (other-step m ev h), λ s. ap all-small (other-step m ev h) ∙ s))
-        (same-number (length m) cells))
+steady = (
+  omega (arith, length-zeros cells),
+  zeros-zero cells,
+  λ m ev. ⊎-elim
+      (λ h. (step-length m ev h, step-small m ev h))
+      (λ h. (ap length (other-step m ev h), λ s. ap all-small (other-step m ev h) ∙ s))
+      (same-number (length m) cells),
+)

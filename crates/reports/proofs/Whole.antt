@@ -48,7 +48,7 @@ well : (Safe : Device → Type 0) (Fin : St → Device → List (List ℕ) → �
     (n : ℕ) × Well own Safe₁ Fin₁ n (record { device = d; memory = m }) ev [] 0
 well Safe Fin Safe₁ Fin₁ safe fin st d m ev fit q runs =
     let g = goes-well store move deliver own 65535 Fits (λ a b q. fits-kept a b (kept-goes a b q)) (λ a b x q. fits-kept a b (kept-acts a b x q)) (λ a p h. h)
-        (λ a p h. stored-step a (page p) h) (λ a h. stored-step a next h) Safe Fin runs fit m ev q in
+    (λ a p h. stored-step a (page p) h) (λ a h. stored-step a next h) Safe Fin runs fit m ev q in
     (g .0, weaker own _ Safe₁ _ Fin₁ safe (λ w ss r reply h. fin w ss r reply (h .0) (h .1) (h .2) (h .3)) (g .0) (record { device = d; memory = m }) ev [] 0 (g .1))
 
 module _ (pages : ℕ) where
@@ -77,13 +77,13 @@ module _ (pages : ℕ) where
   unfolding move
   obeys w s t (q, st, m, fit) stops =
       let shown : (ss : List (List ℕ)) (r reply : ℕ) → ss ≡ [] → reply ≡ refusal-end (reply-to (read-command t)) → May none pages s t ss r reply s = λ ss r reply e f.
-          subst (λ (x : List (List ℕ)). May none pages s t x r reply s) (sym e) (subst (λ (x : ℕ). May none pages s t [] r x s) (sym f) (answered s t r (read-command t) refl)) in
+      subst (λ (x : List (List ℕ)). May none pages s t x r reply s) (sym e) (subst (λ (x : ℕ). May none pages s t [] r x s) (sym f) (answered s t r (read-command t) refl)) in
       let k = well (λ d₁. s ≡ nothing-kept) (λ st₁ d₁ ss r reply. (ss ≡ []) × (reply ≡ refusal-end (reply-to (read-command t)))) _ _
-          (λ w₁ h cs. inl (still-nothing s q))
-          (λ w₁ ss r reply st₁ m₁ f h. (shown ss r reply (h .0) (h .1), (q, st₁, m₁, f), (λ cs. still-nothing s q)))
-          (after-event st (said t)) (w .device) (w .memory) (said t) fit
-          (ap (λ x. own .step x (said t)) m ∙ stored-step st (said t) fit)
-          (refusing _ _ refl q (refl, refl)) in
+      (λ w₁ h cs. inl (still-nothing s q))
+      (λ w₁ ss r reply st₁ m₁ f h. (shown ss r reply (h .0) (h .1), (q, st₁, m₁, f), (λ cs. still-nothing s q)))
+      (after-event st (said t)) (w .device) (w .memory) (said t) fit
+      (ap (λ x. own .step x (said t)) m ∙ stored-step st (said t) fit)
+      (refusing _ _ refl q (refl, refl)) in
       (k .0, s, k .1)
 
 -- WHOLE

@@ -1,7 +1,8 @@
 // The engine as a machine: one step at a time, told one thing and doing one act.
 mod machine;
-mod reading;
+mod reader;
 mod registers;
+pub mod theorems;
 
 pub use machine::step;
 pub use registers::CELLS;

@@ -3,13 +3,15 @@ ghost use mathlib.Core.Path.{_≡_};
 ghost use mathlib.Core.List.{List};
 ghost use Prim.Native.Nat.{ℕ, _≤_};
 ghost use Rattle.reports.specs.Entry.{Step-says, step-fits, event-of};
-ghost use Rattle.reports.specs.Machine.{told};
+ghost use Rattle.reports.specs.Command.{none};
+ghost use Rattle.reports.specs.Machine.{told, own};
+ghost use Rattle.reports.specs.Promise.{Whole};
 ghost use Rattle.reports.specs.Stepping.{event-told, Move-says, Moves-say};
 use crate::Told;
+use crate::reader::read_command;
 use crate::registers::CELLS;
 use crate::registers::Phase;
 use crate::registers::Registers;
-use crate::reading::read_command;
 
 // The length that a lent row has at least: the longest row that is shown fits it.
 const ROW: usize = 131_072;
@@ -50,10 +52,18 @@ fn take_in(registers: Registers, event: Event<'_>) -> Registers
     ensures { λ r. ⌜ r ≡ told registers (event-told (event .entry)) ⌝ }
 {
     match event {
-        Event::On(n) => Registers { phase: Phase::Starting, reply: 0, pages: if n <= MOST_PAGES { n } else { 0 } },
+        Event::On(n) => Registers {
+            phase: Phase::Starting,
+            reply: 0,
+            pages: if n <= MOST_PAGES { n } else { 0 },
+        },
         Event::Said(text) => {
             let reply = if read_command(text).is_some() { 2 } else { 1 };
-            Registers { phase: Phase::Refusing, reply, pages: registers.pages }
+            Registers {
+                phase: Phase::Refusing,
+                reply,
+                pages: registers.pages,
+            }
         }
         Event::Page(_) => registers,
         Event::Next => registers,
@@ -87,7 +97,8 @@ fn run(registers: &mut Registers) -> Told
 
 // One step: takes what the world tells (0 power with the number of pages, 1 a command, 2 a page, 3 go on), and answers the next act.
 pub fn step(memory: &mut [u64], kind: u64, bytes: &[u8], out: &mut [u8]) -> Told
-    ensures { λ r. ⌜ Step-says (now (memory .entry)) kind (now (bytes .entry)) (now (out .entry)) (step-fits (now (memory .entry)) kind (now (bytes .entry)) (now (out .entry))) r (now (memory .exit)) (now (out .exit)) ⌝ }
+    ensures says { λ r. ⌜ Step-says (now (memory .entry)) kind (now (bytes .entry)) (now (out .entry)) (step-fits (now (memory .entry)) kind (now (bytes .entry)) (now (out .entry))) r (now (memory .exit)) (now (out .exit)) ⌝ }
+    ensures whole { λ _. ⌜ Whole none own ⌝ }
 {
     if memory.len() != CELLS || kind > 3 || out.len() < ROW {
         return Told::No(0);

@@ -57,7 +57,11 @@ impl Registers {
         requires { ⌜ 3 ≤ length (now memory) ⌝ }
         ensures { λ r. ⌜ r ≡ load-registers (now (memory .entry)) ⌝ }
     {
-        Registers { phase: Phase::of(memory[0]), reply: memory[1], pages: memory[2] }
+        Registers {
+            phase: Phase::of(memory[0]),
+            reply: memory[1],
+            pages: memory[2],
+        }
     }
 
     // Puts the registers back to the front of memory.
