@@ -2,12 +2,25 @@
 use mathlib.Core.Path.{_≡_, refl, sym, ap, _∙_}
 use mathlib.Core.Bool.{Bool, true, false, _&&_}
 use mathlib.Core.List.{List, [], _∷_, _++_}
+use mathlib.Core.Logic.{_⊎_, inl, inr}
 use Prim.Native.Nat.{ℕ, zero, suc, _+_}
 use native.Mathlib.Omega.{arith}
 use lib.ListN.{length, take, drop}
 use Rattle.std.specs.shelf.Lists.{All}
 use Rattle.std.proofs.shelf.Tests.{and-parts, and-from}
 use Rattle.pages.specs.Lists.{pick, or, every, any, each, those, flat, added-up}
+
+-- what `or` tells
+pub or-cases : (a b : Bool) → or a b ≡ true → (a ≡ true) ⊎ (b ≡ true)
+or-cases true b h = inl refl
+or-cases false b h = inr h
+
+pub or-left : (a b : Bool) → a ≡ true → or a b ≡ true
+or-left a b h = rw h
+
+pub or-right : (a b : Bool) → b ≡ true → or a b ≡ true
+or-right true b h = refl
+or-right false b h = h
 
 -- functions that agree everywhere give the same
 pub each-same : {A B : Type 0} (f g : A → B) → ((x : A) → f x ≡ g x) → (xs : List A) → each f xs ≡ each g xs
@@ -68,6 +81,10 @@ all-from-every p (x ∷ xs) h = let e = and-parts (p x) (every p xs) h in (e .0,
 pub every-from-all : {A : Type 0} (p : A → Bool) (xs : List A) → All (λ x. p x ≡ true) xs → every p xs ≡ true
 every-from-all p [] h = refl
 every-from-all p (x ∷ xs) h = and-from (p x) (every p xs) (h .0) (every-from-all p xs (h .1))
+
+pub every-weaker : {A : Type 0} (p q : A → Bool) → ((x : A) → p x ≡ true → q x ≡ true) → (xs : List A) → every p xs ≡ true → every q xs ≡ true
+every-weaker p q f [] h = refl
+every-weaker p q f (x ∷ xs) h = let e = and-parts (p x) (every p xs) h in and-from (q x) (every q xs) (f x (e .0)) (every-weaker p q f xs (e .1))
 
 -- what passes a test, and what holds of what passes it
 pub all-those : {A : Type 0} (P : A → Type 0) (p : A → Bool) (xs : List A) → All P xs → All P (those p xs)

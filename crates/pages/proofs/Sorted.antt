@@ -1,5 +1,6 @@
 -- Lists of which any two elements stand in a relation, the one in front first: sorted lists, and lists of different elements. Assumes nothing.
 use mathlib.Core.Path.{_≡_, refl, sym, ap, subst, _∙_}
+use mathlib.Core.Bool.{Bool, true, false}
 use mathlib.Core.List.{List, [], _∷_, _++_}
 use mathlib.Core.Logic.{_⊎_, inl, inr}
 use Prim.Native.Nat.{ℕ, zero, suc, _<_}
@@ -7,6 +8,8 @@ use native.Mathlib.Nat.{le-of-suc-le-suc, not-suc-le-zero}
 use lib.ListN.{length, getD}
 use Rattle.std.specs.shelf.Lists.{All}
 use Rattle.std.proofs.shelf.Elements.{all-getD, all-weaker}
+use Rattle.pages.specs.Lists.{pick, each, those}
+use Rattle.pages.proofs.Folds.{all-those, all-each}
 use Rattle.pages.proofs.Perm.{Perm, none, keep, swap, then, In, perm-sym, perm-in, perm-all}
 
 abbrev pub Pairwise : {A : Type 0} → (A → A → Type 0) → List A → Type 0
@@ -22,6 +25,17 @@ pairwise-at R (x ∷ xs) d h (suc i) (suc j) l m = pairwise-at R xs d (h .1) i j
 pub pairwise-weaker : {A : Type 0} (R S : A → A → Type 0) → ((x y : A) → R x y → S x y) → (xs : List A) → Pairwise R xs → Pairwise S xs
 pairwise-weaker R S f [] h = tt
 pairwise-weaker R S f (x ∷ xs) h = (all-weaker (R x) (S x) (f x) xs (h .0), pairwise-weaker R S f xs (h .1))
+
+-- of what passes a test, and of what each element is made into
+pub pairwise-those : {A : Type 0} (R : A → A → Type 0) (p : A → Bool) (xs : List A) → Pairwise R xs → Pairwise R (those p xs)
+pairwise-those R p [] h = tt
+pairwise-those R p (x ∷ xs) h =
+    let k = pairwise-those R p xs (h .1) in
+    elim (p x) as (λ b. Pairwise R (pick b (x ∷ those p xs) (those p xs))) [ true ↦ (all-those (R x) p xs (h .0), k) | false ↦ k ]
+
+pub pairwise-each : {A B : Type 0} (R : B → B → Type 0) (f : A → B) (xs : List A) → Pairwise (λ x y. R (f x) (f y)) xs → Pairwise R (each f xs)
+pairwise-each R f [] h = tt
+pairwise-each R f (x ∷ xs) h = (all-each (R (f x)) f xs (h .0), pairwise-each R f xs (h .1))
 
 -- where the relation holds both ways round, the order of the list makes no difference
 pub perm-pairwise : {A : Type 0} (R : A → A → Type 0) → ((x y : A) → R x y → R y x) → {xs ys : List A} → Perm xs ys → Pairwise R xs → Pairwise R ys

@@ -1,0 +1,4 @@
+pub mod Quotients
+pub mod Matching
+pub mod Order
+pub mod Found
