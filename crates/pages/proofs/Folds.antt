@@ -7,7 +7,7 @@ use Prim.Native.Nat.{ℕ, zero, suc, _+_}
 use native.Mathlib.Omega.{arith}
 use lib.ListN.{length, take, drop}
 use Rattle.std.specs.shelf.Lists.{All}
-use Rattle.std.proofs.shelf.Tests.{and-parts, and-from}
+use Rattle.std.proofs.shelf.Tests.{and-parts, and-from, true≢false}
 use Rattle.pages.specs.Lists.{pick, or, every, any, each, those, flat, added-up}
 
 -- what `or` tells
@@ -21,6 +21,10 @@ or-left a b h = rw h
 pub or-right : (a b : Bool) → b ≡ true → or a b ≡ true
 or-right true b h = refl
 or-right false b h = h
+
+pub or-false : (a b : Bool) → or a b ≡ false → (a ≡ false) × (b ≡ false)
+or-false true b h = absurd (true≢false h)
+or-false false b h = (refl, h)
 
 -- functions that agree everywhere give the same
 pub each-same : {A B : Type 0} (f g : A → B) → ((x : A) → f x ≡ g x) → (xs : List A) → each f xs ≡ each g xs

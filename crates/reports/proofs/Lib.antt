@@ -1,2 +1,4 @@
 pub mod Logic
 pub mod Moves
+pub mod Turns
+pub mod Promises
