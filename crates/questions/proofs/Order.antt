@@ -28,7 +28,7 @@ pub better-from : (a b : Hit) → Better a b → better a b ≡ true
 better-from a b (inl h) = simp (lt-ltb (b .points) (a .points) h)
 better-from a b (inr h) = simp (le-ltb (b .points) (a .points) (omega arith), eq-eqb (a .points) (b .points) (h .0), lt-ltb (a .doc) (b .doc) (h .1))
 
-same-hit : (a b : Hit) → a .doc ≡ b .doc → a .points ≡ b .points → a ≡ b
+pub same-hit : (a b : Hit) → a .doc ≡ b .doc → a .points ≡ b .points → a ≡ b
 same-hit a b p q = λ i. record { doc = p i; points = q i }
 
 -- one of two is better, or they are the same

@@ -2,3 +2,4 @@ pub mod Logic
 pub mod Moves
 pub mod Turns
 pub mod Promises
+pub mod Examples

@@ -1,5 +1,6 @@
 // Theorems about the definitions that questions, documents and pages are described with. Each stands on the contract of a function, so that the
 // crate is proved only with its proof.
+ghost use Rattle.reports.specs.Examples.{Examples-hold};
 ghost use Rattle.reports.specs.Promise.{Found-in-order, Any-order, Worth-bounded, Phrase-words, Sets, Same-till-noted, Fair, Flushed-stays};
 
 // The best first: all that match, each once, and whoever stands before another is better.
@@ -54,6 +55,13 @@ pub fn fair() -> u8
 // What was flushed stays, whatever a stop leaves of later writes to other pages.
 pub fn flushed_stays() -> u8
     ensures { λ _. ⌜ Flushed-stays ⌝ }
+{
+    0
+}
+
+// What five questions find in four reports, by a table.
+pub fn examples_hold() -> u8
+    ensures { λ _. ⌜ Examples-hold ⌝ }
 {
     0
 }
