@@ -128,11 +128,12 @@ pub page-read : (ps : List Page) (k : ℕ) (ws : List Write) → k < length ps �
 page-read ps k ws h =
     ⊎-elim (λ a. inl (a, written-elsewhere ps ws k a))
     (λ l.
-        let a : Elsewhere (l .last .at) (l .later) = subst (λ (j : ℕ). Elsewhere j (l .later)) (sym (l .here)) (l .apart) in
-        inr
-            (l,
-                ap (λ vs. page-at (all-written ps vs) k) (l .split) ∙ ap (page-at (all-written ps (l .before ++ l .last ∷ l .later))) (sym (l .here))
-                ∙ written-last ps (l .before) (l .last) (l .later) (omega (arith, l .here)) a))
+    let a : Elsewhere (l .last .at) (l .later) = subst (λ (j : ℕ). Elsewhere j (l .later)) (sym (l .here)) (l .apart) in
+    inr (
+      l,
+      ap (λ vs. page-at (all-written ps vs) k) (l .split) ∙ ap (page-at (all-written ps (l .before ++ l .last ∷ l .later))) (sym (l .here))
+          ∙ written-last ps (l .before) (l .last) (l .later) (omega (arith, l .here)) a,
+    ))
     (last-write k ws)
 
 pub all-pages-written : (P : Page → Type 0) (ps : List Page) (ws : List Write) → All P ps → All (λ w. P (w .page)) ws → All P (all-written ps ws)
@@ -259,7 +260,7 @@ left-once ps ws cs k h o =
     let P : Page → Page → Type 0 = λ p old. (p ≡ old) ⊎ ((p ≡ o .one .page) ⊎ (p ≡ half (o .one .page) old)) in
     subst (λ (old : Page). P (page-at (left ps ws cs) k) old) e
     (subst (λ (rs : List Page). P (page-at rs k) (page-at qs k)) (sym s)
-        (left-first qs (o .one) (o .later) (drop n cs) k (o .here) (omega (arith, length-left ps (o .before) (take n cs))) (o .apart-later)))
+    (left-first qs (o .one) (o .later) (drop n cs) k (o .here) (omega (arith, length-left ps (o .before) (take n cs))) (o .apart-later)))
 
 -- HALF a page: as long, its first 256 bytes the new ones, the others the old ones
 pub length-half : (new old : Page) → length new ≡ length old → length (half new old) ≡ length old
@@ -283,8 +284,8 @@ pub all-pages-left : (P : Page → Type 0) → ((new old : Page) → P new → P
     All P ps → All (λ w. P (w .page)) ws → All P (left ps ws cs)
 all-pages-left P f ps ws cs h a =
     let part : (w : Write) → P (w .page) → (qs : List Page) → All P qs → All P (set-page qs (w .at) (half (w .page) (page-at qs (w .at)))) = λ w p qs k.
-        ⊎-elim (λ l. all-set-page P qs (w .at) _ (f (w .page) _ p (all-page-at P qs (w .at) l k)) k) (λ l. subst (All P) (sym (set-page-past qs (w .at) _ l)) k)
-            (cases-lt (w .at) (length qs)) in
+    ⊎-elim (λ l. all-set-page P qs (w .at) _ (f (w .page) _ p (all-page-at P qs (w .at) l k)) k) (λ l. subst (All P) (sym (set-page-past qs (w .at) _ l)) k)
+    (cases-lt (w .at) (length qs)) in
     left-keeps (All P) ws (all-weaker (λ w. P (w .page)) _ (λ w p qs k. (all-set-page P qs (w .at) (w .page) p k, part w p qs k)) ws a) ps cs h
 
 pub a-page-half : (new old : Page) → a-page new ≡ true → a-page old ≡ true → a-page (half new old) ≡ true
@@ -295,7 +296,7 @@ a-page-half new old h k =
     let o : length old ≡ 512 = eqb-true (length old) 512 (b .0) in
     let byte : ℕ → Bool = λ c. ltb c 256 in
     and-from _ _ (eq-eqb (length (half new old)) 512 (length-half new old (omega arith) ∙ o))
-        (every-from-all byte (half new old) (all-half (λ c. byte c ≡ true) new old (all-from-every byte new (a .1)) (all-from-every byte old (b .1))))
+    (every-from-all byte (half new old) (all-half (λ c. byte c ≡ true) new old (all-from-every byte new (a .1)) (all-from-every byte old (b .1))))
 
 -- STOPPED: where nothing waits, nothing changes
 pub stopped-idle : (ps : List Page) (cs : List ℕ) → stopped (record { pages = ps; queue = [] }) cs ≡ record { pages = ps; queue = [] }

@@ -84,14 +84,14 @@ pub perm-those : {A : Type 0} (p : A → Bool) {xs ys : List A} → Perm xs ys �
 perm-those p none = none
 perm-those p (keep {xs} {ys} x h) =
     elim (p x) as (λ b. Perm (pick b (x ∷ those p xs) (those p xs)) (pick b (x ∷ those p ys) (those p ys))) [
-      true ↦ keep x (perm-those p h)
-    | false ↦ perm-those p h
+      | true ↦ keep x (perm-those p h)
+      | false ↦ perm-those p h
     ]
 perm-those p (swap x y xs) =
     let t = those p xs in
     elim (p x) as (λ b. Perm (pick b (x ∷ pick (p y) (y ∷ t) t) (pick (p y) (y ∷ t) t)) (pick (p y) (y ∷ pick b (x ∷ t) t) (pick b (x ∷ t) t))) [
-      true ↦ elim (p y) as (λ c. Perm (x ∷ pick c (y ∷ t) t) (pick c (y ∷ x ∷ t) (x ∷ t))) [ true ↦ swap x y t | false ↦ perm-refl (x ∷ t) ]
-    | false ↦ perm-refl (pick (p y) (y ∷ t) t)
+      | true ↦ elim (p y) as (λ c. Perm (x ∷ pick c (y ∷ t) t) (pick c (y ∷ x ∷ t) (x ∷ t))) [ true ↦ swap x y t | false ↦ perm-refl (x ∷ t) ]
+      | false ↦ perm-refl (pick (p y) (y ∷ t) t)
     ]
 perm-those p (then h k) = then (perm-those p h) (perm-those p k)
 

@@ -68,7 +68,7 @@ module _ {A : Type 0} (R : A → A → Type 0) (apart : (x y : A) → R x y → 
       let q : x ≡ y = same-heads x xs y ys (h .0) (k .0) (f x (inl refl)) (g y (inl refl)) in
       ap (λ z. z ∷ xs) q
       ∙ ap (λ zs. y ∷ zs)
-          (sorted-same xs ys (h .1) (k .1) (λ z i. in-tail x xs y ys (h .0) q z i (f z (inr i))) (λ z i. in-tail y ys x xs (k .0) (sym q) z i (g z (inr i))))
+      (sorted-same xs ys (h .1) (k .1) (λ z i. in-tail x xs y ys (h .0) q z i (f z (inr i))) (λ z i. in-tail y ys x xs (k .0) (sym q) z i (g z (inr i))))
 
   pub sorted-perm : {xs ys : List A} → Perm xs ys → Pairwise R xs → Pairwise R ys → xs ≡ ys
   sorted-perm {xs} {ys} p h k = sorted-same xs ys h k (λ z. perm-in z p) (λ z. perm-in z (perm-sym p))

@@ -56,4 +56,4 @@ found-sorted ds q h =
     let ms : List Doc = those (λ d. matches d q) ds in
     in-order-sorted (each (hit-of ds q) ms)
     (different-names (each (hit-of ds q) ms)
-        (pairwise-each (λ (a b : Hit). a .doc ≡ b .doc → ⊥) (hit-of ds q) ms (pairwise-those (λ (d c : Doc). d .name ≡ c .name → ⊥) (λ d. matches d q) ds h)))
+    (pairwise-each (λ (a b : Hit). a .doc ≡ b .doc → ⊥) (hit-of ds q) ms (pairwise-those (λ (d c : Doc). d .name ≡ c .name → ⊥) (λ d. matches d q) ds h)))

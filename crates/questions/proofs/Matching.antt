@@ -46,7 +46,7 @@ words-here-each (p ∷ ps) [] h = h
 words-here-each (p ∷ ps) (w ∷ ws) h =
     let a = and-parts (same p w) (words-here ps ws) h in
     and-from _ _ (or-left (same p w) (any (same p) ws) (a .0))
-        (every-weaker (λ r. any (same r) ws) _ (λ r. or-right (same r w) (any (same r) ws)) ps (words-here-each ps ws (a .1)))
+    (every-weaker (λ r. any (same r) ws) _ (λ r. or-right (same r w) (any (same r) ws)) ps (words-here-each ps ws (a .1)))
 
 pub words-somewhere-each : (ps ws : List (List ℕ)) → words-somewhere ps ws ≡ true → every (λ p. any (same p) ws) ps ≡ true
 unfolding words-somewhere

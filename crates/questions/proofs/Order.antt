@@ -45,7 +45,7 @@ better-irreflexive a = simp (le-ltb (a .points) (a .points) (omega arith), eq-eq
 pub better-transitive : (a b c : Hit) → better a b ≡ true → better b c ≡ true → better a c ≡ true
 better-transitive a b c h k =
     let trans : Better a b → Better b c → Better a c =
-        ⊎-elim (λ l. ⊎-elim (λ m. inl (omega arith)) (λ m. inl (omega arith))) (λ l. ⊎-elim (λ m. inl (omega arith)) (λ m. inr (omega arith, omega arith))) in
+    ⊎-elim (λ l. ⊎-elim (λ m. inl (omega arith)) (λ m. inl (omega arith))) (λ l. ⊎-elim (λ m. inl (omega arith)) (λ m. inr (omega arith, omega arith))) in
     better-from a c (trans (better-says a b h) (better-says b c k))
 
 pub better-never-both : (a b : Hit) → better a b ≡ true → better b a ≡ true → ⊥
@@ -86,7 +86,7 @@ put-in-both : (a b : Hit) (xs : List Hit) → put-in a xs ≡ a ∷ xs → put-i
 put-in-both a b xs h k =
     ⊎-elim (λ q. ap (λ x. put-in x (b ∷ xs)) q ∙ ap (λ x. put-in b (x ∷ xs)) (sym q))
     (⊎-elim (λ l. put-in-first a b xs l ∙ sym (put-in-later b a xs (better-asymmetric a b l) ∙ ap (λ ys. a ∷ ys) k))
-        (λ l. put-in-later a b xs (better-asymmetric b a l) ∙ ap (λ ys. b ∷ ys) h ∙ sym (put-in-first b a xs l)))
+    (λ l. put-in-later a b xs (better-asymmetric b a l) ∙ ap (λ ys. b ∷ ys) h ∙ sym (put-in-first b a xs l)))
     (better-either a b)
 
 -- .. where one comes first and the other later
@@ -101,12 +101,12 @@ put-in-swapped a b [] = put-in-both a b [] refl refl
 put-in-swapped a b (g ∷ gs) =
     ⊎-elim
     (λ h. ⊎-elim
-        (λ k. ap (put-in a) (put-in-first b g gs k) ∙ put-in-both a b (g ∷ gs) (put-in-first a g gs h) (put-in-first b g gs k) ∙ ap (put-in b) (sym (put-in-first a g gs h)))
-        (λ k. put-in-one a b g gs h k) (cases-bool (better b g)))
+    (λ k. ap (put-in a) (put-in-first b g gs k) ∙ put-in-both a b (g ∷ gs) (put-in-first a g gs h) (put-in-first b g gs k) ∙ ap (put-in b) (sym (put-in-first a g gs h)))
+    (λ k. put-in-one a b g gs h k) (cases-bool (better b g)))
     (λ h. ⊎-elim (λ k. sym (put-in-one b a g gs k h))
-        (λ k.
-            ap (put-in a) (put-in-later b g gs k) ∙ put-in-later a g (put-in b gs) h ∙ ap (λ ys. g ∷ ys) (put-in-swapped a b gs)
-            ∙ sym (ap (put-in b) (put-in-later a g gs h) ∙ put-in-later b g (put-in a gs) k)) (cases-bool (better b g)))
+    (λ k.
+    ap (put-in a) (put-in-later b g gs k) ∙ put-in-later a g (put-in b gs) h ∙ ap (λ ys. g ∷ ys) (put-in-swapped a b gs)
+    ∙ sym (ap (put-in b) (put-in-later a g gs h) ∙ put-in-later b g (put-in a gs) k)) (cases-bool (better b g)))
     (cases-bool (better a g))
 
 -- what is put in is there, with all that was
@@ -115,8 +115,8 @@ unfolding put-in
 put-in-perm h [] = perm-refl (h ∷ [])
 put-in-perm h (g ∷ gs) =
     elim (better h g) as (λ b. Perm (h ∷ g ∷ gs) (pick b (h ∷ g ∷ gs) (g ∷ put-in h gs))) [
-      true ↦ perm-refl (h ∷ g ∷ gs)
-    | false ↦ then (swap h g gs) (keep g (put-in-perm h gs))
+      | true ↦ perm-refl (h ∷ g ∷ gs)
+      | false ↦ then (swap h g gs) (keep g (put-in-perm h gs))
     ]
 
 pub length-put-in : (h : Hit) (hs : List Hit) → length (put-in h hs) ≡ suc (length hs)
@@ -157,7 +157,7 @@ put-in-sorted h [] n s = (tt, tt)
 put-in-sorted h (g ∷ gs) n s =
     ⊎-elim (λ b. subst Sorted (sym (put-in-first h g gs b)) ((b, all-better h g gs b (s .0)), s))
     (λ b. subst Sorted (sym (put-in-later h g gs b))
-        (perm-all (λ c. better g c ≡ true) (put-in-perm h gs) (better-other h g (n .0) b, s .0), put-in-sorted h gs (n .1) (s .1)))
+    (perm-all (λ c. better g c ≡ true) (put-in-perm h gs) (better-other h g (n .0) b, s .0), put-in-sorted h gs (n .1) (s .1)))
     (cases-bool (better h g))
 
 pub in-order-sorted : (hs : List Hit) → Different hs → Sorted (in-order hs)

@@ -72,9 +72,10 @@ sets d q r s = (both-swapped d q r, both-over-either d q r s, but-either d q r s
 pub fair : Fair
 unfolding Fair worth
 fair ds d c s =
-    let r = rarity (length ds) (having ds s) in
-    (λ h e. subst (λ (l : ℕ). r * (1000 * how-often d s) / (how-often d s + 1 + long d / 64) ≤ r * (1000 * how-often c s) / (how-often c s + 1 + l / 64)) e (points-rise r (how-often d s) (how-often c s) (long d / 64) h),
-        λ e h. subst (λ (t : ℕ). r * (1000 * how-often c s) / (how-often c s + 1 + long c / 64) ≤ r * (1000 * t) / (t + 1 + long d / 64)) (sym e) (points-fall r (how-often c s) (long d / 64) (long c / 64) (quotient-rises (long d) (long c) 64 h)))
+    let r = rarity (length ds) (having ds s) in (
+      λ h e. subst (λ (l : ℕ). r * (1000 * how-often d s) / (how-often d s + 1 + long d / 64) ≤ r * (1000 * how-often c s) / (how-often c s + 1 + l / 64)) e (points-rise r (how-often d s) (how-often c s) (long d / 64) h),
+      λ e h. subst (λ (t : ℕ). r * (1000 * how-often c s) / (how-often c s + 1 + long c / 64) ≤ r * (1000 * t) / (t + 1 + long d / 64)) (sym e) (points-fall r (how-often c s) (long d / 64) (long c / 64) (quotient-rises (long d) (long c) 64 h)),
+    )
 
 pick-passed : (a b : Bool) → pick a false b ≡ true → (a ≡ false) × (b ≡ true)
 pick-passed true b h = absurd (false≢true h)
