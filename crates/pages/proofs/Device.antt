@@ -1,9 +1,9 @@
 -- Laws of pages, of what is written to them, and of what a stop leaves. Assumes nothing.
 use mathlib.Core.Path.{_≡_, refl, sym, ap, subst, _∙_}
-use mathlib.Core.Bool.{Bool, true, false, _&&_}
+use mathlib.Core.Bool.{Bool, true}
 use mathlib.Core.List.{List, [], _∷_, _++_}
 use mathlib.Core.Logic.{_⊎_, inl, inr, ⊎-elim}
-use Prim.Native.Nat.{ℕ, zero, suc, _+_, _-_, _≤_, _<_, min}
+use Prim.Native.Nat.{ℕ, zero, suc, _≤_, _<_}
 use native.Mathlib.Nat.{le-of-suc-le-suc, not-suc-le-zero}
 use native.Mathlib.Omega.{arith}
 use lib.Dec.{eqb, ltb}
@@ -13,7 +13,7 @@ use Rattle.std.proofs.shelf.Elements.{all-set, all-getD, all-append, all-take, 
 use Rattle.std.proofs.shelf.Lists.{getD-set-same, getD-set-other, set-set, set-comm, set-getD, set-past, ext-getD, take-at, drop-at, length-take-le}
 use Rattle.std.proofs.shelf.Tests.{cases-eq, cases-lt, and-parts, and-from, eqb-true, eq-eqb}
 use Rattle.pages.specs.Lists.{pick, every, zeros}
-use Rattle.pages.proofs.Folds.{all-from-every, every-from-all}
+use Rattle.pages.proofs.Folds.{all-from-every, every-from-all, pick-either}
 use Rattle.pages.specs.Device.{Page, Write, Device, set-page, page-at, all-written, read-page, flushed, half, left, stopped, blank, a-page}
 
 -- PAGES as a list: `set-page` is `set`, and `page-at` is `getD` with no bytes past the end
@@ -169,10 +169,6 @@ read-queued-elsewhere ps ws w k h = ap (λ qs. page-at qs k) (written-push ps ws
 -- A STOP. What a choice leaves of one write
 abbrev pub left-of : List Page → Write → ℕ → List Page
 left-of ps w c = pick (eqb c 1) (set-page ps (w .at) (w .page)) (pick (eqb c 2) (set-page ps (w .at) (half (w .page) (page-at ps (w .at)))) ps)
-
-pick-either : {A : Type 0} (P : A → Type 0) (b : Bool) (x y : A) → P x → P y → P (pick b x y)
-pick-either P true x y h k = h
-pick-either P false x y h k = k
 
 pub left-of-either : (P : List Page → Type 0) (ps : List Page) (w : Write) (c : ℕ) → P ps → P (set-page ps (w .at) (w .page)) →
     P (set-page ps (w .at) (half (w .page) (page-at ps (w .at)))) → P (left-of ps w c)

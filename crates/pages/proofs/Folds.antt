@@ -1,14 +1,14 @@
 -- Laws of the functions on lists: over lists one after the other, of functions that agree, and what a test of every element tells. Assumes nothing.
-use mathlib.Core.Path.{_≡_, refl, sym, ap, _∙_}
+use mathlib.Core.Path.{_≡_, refl, sym, ap, subst, _∙_}
 use mathlib.Core.Bool.{Bool, true, false, _&&_}
 use mathlib.Core.List.{List, [], _∷_, _++_}
-use mathlib.Core.Logic.{_⊎_, inl, inr}
-use Prim.Native.Nat.{ℕ, zero, suc, _+_}
+use mathlib.Core.Logic.{_⊎_, inl, inr, ⊎-elim}
+use Prim.Native.Nat.{ℕ, suc, _+_}
 use native.Mathlib.Omega.{arith}
-use lib.ListN.{length, take, drop}
+use lib.ListN.{length}
 use Rattle.std.specs.shelf.Lists.{All}
-use Rattle.std.proofs.shelf.Tests.{and-parts, and-from, true≢false}
-use Rattle.pages.specs.Lists.{pick, or, every, any, each, those, flat, added-up}
+use Rattle.std.proofs.shelf.Tests.{and-parts, and-from, cases-bool, true≢false}
+use Rattle.pages.specs.Lists.{pick, or, every, any, each, those, added-up}
 
 -- what `or` tells
 pub or-cases : (a b : Bool) → or a b ≡ true → (a ≡ true) ⊎ (b ≡ true)
@@ -99,3 +99,14 @@ all-those P p (x ∷ xs) h =
 pub all-each : {A B : Type 0} (P : B → Type 0) (f : A → B) (xs : List A) → All (λ x. P (f x)) xs → All P (each f xs)
 all-each P f [] h = tt
 all-each P f (x ∷ xs) h = (h .0, all-each P f xs (h .1))
+
+pub those-pass : {A : Type 0} (p : A → Bool) (xs : List A) → All (λ x. p x ≡ true) (those p xs)
+those-pass p [] = tt
+those-pass p (x ∷ xs) =
+    let P : Bool → Type 0 = λ b. All (λ y. p y ≡ true) (pick b (x ∷ those p xs) (those p xs)) in
+    ⊎-elim (λ h. subst P (sym h) (h, those-pass p xs)) (λ h. subst P (sym h) (those-pass p xs)) (cases-bool (p x))
+
+-- a choice of two, each of which has it
+pub pick-either : {A : Type 0} (P : A → Type 0) (b : Bool) (x y : A) → P x → P y → P (pick b x y)
+pick-either P true x y h k = h
+pick-either P false x y h k = k

@@ -68,6 +68,15 @@ perm-in z (swap x y xs) (inr (inl q)) = inl q
 perm-in z (swap x y xs) (inr (inr h)) = inr (inr h)
 perm-in z (then p q) h = perm-in z q (perm-in z p h)
 
+-- where an element stands
+pub in-split : {A : Type 0} (x : A) (ys : List A) → In x ys → (before : List A) × (after : List A) × (ys ≡ before ++ x ∷ after)
+in-split x [] i = absurd i
+in-split x (y ∷ ys) (inl q) = ([], ys, ap (λ z. z ∷ ys) (sym q))
+in-split x (y ∷ ys) (inr i) = let s = in-split x ys i in (y ∷ s .0, s .1, ap (λ zs. y ∷ zs) (s .2))
+
+pub perm-to-front : {A : Type 0} (x : A) (ys : List A) → In x ys → (zs : List A) × Perm ys (x ∷ zs)
+perm-to-front x ys i = let s = in-split x ys i in (s .0 ++ s .1, then (perm-same ys (s .0 ++ x ∷ s .1) (s .2)) (perm-middle (s .0) x (s .1)))
+
 pub perm-all : {A : Type 0} (P : A → Type 0) {xs ys : List A} → Perm xs ys → All P xs → All P ys
 perm-all P none h = h
 perm-all P (keep x p) h = (h .0, perm-all P p (h .1))

@@ -1,8 +1,8 @@
 -- Lists of which any two elements stand in a relation, the one in front first: sorted lists, and lists of different elements. Assumes nothing.
 use mathlib.Core.Path.{_≡_, refl, sym, ap, subst, _∙_}
 use mathlib.Core.Bool.{Bool, true, false}
-use mathlib.Core.List.{List, [], _∷_, _++_}
-use mathlib.Core.Logic.{_⊎_, inl, inr}
+use mathlib.Core.List.{List, [], _∷_}
+use mathlib.Core.Logic.{inl, inr, ⊎-elim}
 use Prim.Native.Nat.{ℕ, zero, suc, _<_}
 use native.Mathlib.Nat.{le-of-suc-le-suc, not-suc-le-zero}
 use lib.ListN.{length, getD}
@@ -10,7 +10,7 @@ use Rattle.std.specs.shelf.Lists.{All}
 use Rattle.std.proofs.shelf.Elements.{all-getD, all-weaker}
 use Rattle.pages.specs.Lists.{pick, each, those}
 use Rattle.pages.proofs.Folds.{all-those, all-each}
-use Rattle.pages.proofs.Perm.{Perm, none, keep, swap, then, In, perm-sym, perm-in, perm-all}
+use Rattle.pages.proofs.Perm.{Perm, none, keep, swap, then, In, perm-sym, perm-in, perm-to-front, perm-all}
 
 abbrev pub Pairwise : {A : Type 0} → (A → A → Type 0) → List A → Type 0
 Pairwise R [] = Unit {0}
@@ -48,6 +48,28 @@ pub all-in : {A : Type 0} (P : A → Type 0) (xs : List A) (x : A) → All P xs 
 all-in P [] x h i = absurd i
 all-in P (y ∷ xs) x h (inl q) = subst P (sym q) (h .0)
 all-in P (y ∷ xs) x h (inr i) = all-in P xs x (h .1) i
+
+pub in-all : {A : Type 0} (P : A → Type 0) (xs : List A) → ((x : A) → In x xs → P x) → All P xs
+in-all P [] f = tt
+in-all P (x ∷ xs) f = (f x (inl refl), in-all P xs (λ y i. f y (inr i)))
+
+-- lists of different elements with the same members are the same but for the order
+abbrev pub Different : {A : Type 0} → List A → Type 0
+Different xs = Pairwise (λ x y. x ≡ y → ⊥) xs
+
+pub perm-from-members : {A : Type 0} (xs ys : List A) → Different xs → Different ys → ((z : A) → In z xs → In z ys) → ((z : A) → In z ys → In z xs) → Perm xs ys
+perm-from-members [] [] h k f g = none
+perm-from-members [] (y ∷ ys) h k f g = absurd (g y (inl refl))
+perm-from-members {A} (x ∷ xs) ys h k f g =
+    let t = perm-to-front x ys (f x (inl refl)) in
+    let d = perm-pairwise (λ a b. a ≡ b → ⊥) (λ a b n q. n (sym q)) (t .1) k in
+    let rest : (vs us : List A) → All (λ a. x ≡ a → ⊥) vs → (z : A) → In z vs → In z (x ∷ us) → In z us = λ vs us n z i.
+    ⊎-elim (λ q. absurd (all-in (λ a. x ≡ a → ⊥) vs z n i (sym q))) (λ j. j) in
+    then
+    (keep x
+    (perm-from-members xs (t .0) (h .1) (d .1) (λ z i. rest xs (t .0) (h .0) z i (perm-in z (t .1) (f z (inr i))))
+    (λ z i. rest (t .0) xs (d .0) z i (g z (perm-in z (perm-sym (t .1)) (inr i))))))
+    (perm-sym (t .1))
 
 -- A SORTED LIST WITH THE SAME MEMBERS IS THE SAME LIST, for an order of which no two elements stand both ways round
 module _ {A : Type 0} (R : A → A → Type 0) (apart : (x y : A) → R x y → R y x → ⊥) where

@@ -1,14 +1,11 @@
 -- What is found, whatever the order of the documents; and its length and order. Assumes nothing.
-use mathlib.Core.Path.{_≡_, refl, sym, ap, _∙_}
-use mathlib.Core.Bool.{Bool, true, false}
-use mathlib.Core.List.{List, [], _∷_, _++_}
-use Prim.Native.Nat.{ℕ, _*_, _/_, _+_}
+use mathlib.Core.Path.{_≡_, ap, _∙_}
+use mathlib.Core.List.{List}
+use Prim.Native.Nat.{_*_, _/_, _+_}
 use lib.Dec.{ltb}
 use lib.ListN.{length}
-use Rattle.std.specs.shelf.Lists.{All}
-use Rattle.std.proofs.shelf.Elements.{all-weaker}
-use Rattle.pages.specs.Lists.{each, those, added-up}
-use Rattle.pages.proofs.Folds.{each-same, added-up-same, length-each, all-those, all-each}
+use Rattle.pages.specs.Lists.{each, those}
+use Rattle.pages.proofs.Folds.{each-same, added-up-same, length-each}
 use Rattle.pages.proofs.Perm.{Perm, perm-length, perm-those, perm-each}
 use Rattle.pages.proofs.Sorted.{Pairwise, pairwise-those, pairwise-each}
 use Rattle.documents.specs.Document.{Doc, long}

@@ -1,11 +1,10 @@
 -- The order of hits: better is a strict total order, and putting a hit in keeps a list in order. Assumes nothing.
 use mathlib.Core.Path.{_≡_, refl, sym, ap, subst, _∙_}
-use mathlib.Core.Bool.{Bool, true, false, _&&_}
+use mathlib.Core.Bool.{true, false}
 use mathlib.Core.List.{List, [], _∷_}
 use mathlib.Core.Logic.{_⊎_, inl, inr, ⊎-elim}
-use Prim.Native.Nat.{ℕ, zero, suc, _<_, _≤_}
+use Prim.Native.Nat.{suc, _<_}
 use native.Mathlib.Omega.{arith}
-use lib.Dec.{eqb, ltb}
 use lib.ListN.{length}
 use borrow.Author.Tests.{lt-ltb, le-ltb, eq-eqb, both-ways}
 use Rattle.std.proofs.shelf.Tests.{cases-order, cases-bool}
@@ -14,7 +13,7 @@ use Rattle.std.specs.shelf.Lists.{All}
 use Rattle.std.proofs.shelf.Elements.{all-weaker}
 use Rattle.pages.specs.Lists.{pick}
 use Rattle.pages.proofs.Perm.{Perm, none, keep, swap, then, In, perm-refl, perm-length, perm-all}
-use Rattle.pages.proofs.Sorted.{Pairwise, pairwise-weaker, sorted-same}
+use Rattle.pages.proofs.Sorted.{Pairwise, Different, pairwise-weaker, sorted-same}
 use Rattle.questions.specs.Order.{Hit, better, put-in, in-order}
 
 -- BETTER as a fact: more points; or as many, and a lower name
@@ -141,9 +140,6 @@ in-order-any (then p q) = in-order-any p ∙ in-order-any q
 -- SORTED: whoever stands before another is better
 abbrev pub Sorted : List Hit → Type 0
 Sorted hs = Pairwise (λ a b. better a b ≡ true) hs
-
-abbrev pub Different : List Hit → Type 0
-Different hs = Pairwise (λ a b. a ≡ b → ⊥) hs
 
 pub different-names : (hs : List Hit) → Pairwise (λ a b. a .doc ≡ b .doc → ⊥) hs → Different hs
 different-names hs h = pairwise-weaker _ (λ a b. a ≡ b → ⊥) (λ a b n q. n (ap (λ x. x .doc) q)) hs h

@@ -1,5 +1,5 @@
 -- Quotients that rise and fall. Assumes nothing.
-use mathlib.Core.Path.{_≡_, refl, sym, ap, _∙_}
+use mathlib.Core.Path.{_≡_, ap}
 use Prim.Native.Nat.{ℕ, zero, suc, _+_, _*_, _/_, _≤_, _<_}
 use native.Mathlib.Nat.{add-assoc, mul-comm, mul-assoc, mul-add, mul-le-mul-left, mul-le-mul-right, div-zero, div-mul-le-self, mul-lt-mul-of-pos-right}
 use native.Mathlib.Omega.{arith}

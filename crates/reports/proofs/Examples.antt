@@ -4,10 +4,9 @@ use mathlib.Core.Bool.{Bool, true, false, _&&_}
 use mathlib.Core.List.{List, [], _∷_}
 use lib.Dec.{eqb}
 use borrow.Author.Tests.{eqb-true}
-use Rattle.std.specs.shelf.Lists.{All}
 use Rattle.std.proofs.shelf.Elements.{all-weaker}
 use Rattle.std.proofs.shelf.Tests.{and-parts, false≢true}
-use Rattle.pages.specs.Lists.{every, same, starts-with}
+use Rattle.pages.specs.Lists.{every, same}
 use Rattle.pages.proofs.Folds.{all-from-every}
 use Rattle.words.specs.Words.{words-from}
 use Rattle.questions.specs.Query.{words-here, words-somewhere, near-in, matches}

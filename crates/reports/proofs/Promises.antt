@@ -1,42 +1,27 @@
 -- The theorems about definitions that never change, from the laws of the parts. Assumes nothing.
-use mathlib.Core.Path.{_≡_, refl, sym, ap, subst, _∙_}
-use mathlib.Core.Bool.{Bool, true, false, _&&_, not}
-use mathlib.Core.List.{List, [], _∷_, _++_}
-use Prim.Native.Nat.{ℕ, zero, suc, _+_, _*_, _/_, _≤_, _<_}
+use mathlib.Core.Path.{_≡_, refl, sym, subst}
+use mathlib.Core.Bool.{Bool, true, false}
+use mathlib.Core.List.{List, [], _∷_}
+use Prim.Native.Nat.{ℕ, zero, suc, _+_, _*_, _/_, _≤_}
 use native.Mathlib.Nat.{add-zero, le-trans}
 use native.Mathlib.Omega.{arith}
 use lib.Dec.{eqb}
 use lib.ListN.{length, getD}
-use borrow.Author.Tests.{not-true, eqb-false, eq-eqb, both-ways}
-use Rattle.std.specs.shelf.Lists.{All}
-use Rattle.std.proofs.shelf.Tests.{and-parts, cases-bool, false≢true}
-use Rattle.pages.specs.Lists.{pick, or, any}
-use Rattle.pages.specs.Device.{Write, Device, page-at, all-written, flushed}
-use Rattle.pages.proofs.Folds.{or-false}
+use borrow.Author.Tests.{eqb-false}
+use Rattle.std.proofs.shelf.Tests.{false≢true}
+use Rattle.pages.specs.Lists.{pick}
+use Rattle.pages.specs.Device.{Write, all-written}
 use Rattle.pages.proofs.Device.{Elsewhere, left-elsewhere}
-use Rattle.pages.proofs.Perm.{Perm, swap, perm-after}
-use Rattle.pages.proofs.Sorted.{Pairwise, pairwise-at}
-use Rattle.documents.specs.Document.{Doc, long}
-use Rattle.questions.specs.Query.{Query, matches}
-use Rattle.questions.specs.Points.{Sought, how-often, having, rarity, worth}
+use Rattle.pages.proofs.Perm.{swap, perm-after}
+use Rattle.pages.proofs.Sorted.{pairwise-at}
+use Rattle.documents.specs.Document.{long}
+use Rattle.questions.specs.Points.{how-often, having, rarity, worth}
 use Rattle.questions.specs.Order.{Hit, better, found}
 use Rattle.questions.proofs.Quotients.{quotient-rises, points-rise, points-fall}
 use Rattle.questions.proofs.Matching.{both-swapped, both-over-either, but-either, phrase-has-words, phrase-of-one}
-use Rattle.questions.proofs.Order.{Sorted}
-use Rattle.questions.proofs.Found.{Names-differ, found-any, length-found, found-sorted}
-use Rattle.reports.specs.Promise.{nth, no-hit, distinct, Found-in-order, Any-order, at-best, Worth-bounded, Phrase-words, Sets, Fair, elsewhere, Flushed-stays}
-
--- documents with distinct names, as a fact
-names-apart : (d : Doc) (ds : List Doc) → any (λ c. eqb (c .name) (d .name)) ds ≡ false → All (λ c. d .name ≡ c .name → ⊥) ds
-names-apart d [] h = tt
-names-apart d (c ∷ cs) h =
-    let e = or-false (eqb (c .name) (d .name)) (any (λ b. eqb (b .name) (d .name)) cs) h in
-    (λ q. eqb-false (c .name) (d .name) (e .0) (sym q), names-apart d cs (e .1))
-
-pub names-differ : (ds : List Doc) → distinct ds ≡ true → Names-differ ds
-unfolding distinct
-names-differ [] h = tt
-names-differ (d ∷ ds) h = let e = and-parts (not (any (λ c. eqb (c .name) (d .name)) ds)) (distinct ds) h in (names-apart d ds (not-true _ (e .0)), names-differ ds (e .1))
+use Rattle.questions.proofs.Found.{found-any, length-found, found-sorted}
+use Rattle.reports.proofs.Names.{names-differ}
+use Rattle.reports.specs.Promise.{nth, no-hit, Found-in-order, Any-order, at-best, Worth-bounded, Phrase-words, Sets, Fair, elsewhere, Flushed-stays}
 
 pub nth-is-getD : (d : Hit) (hs : List Hit) (i : ℕ) → nth d hs i ≡ getD hs i d
 unfolding nth

@@ -1,29 +1,25 @@
 -- What is asked is unchanged by anything but a note and a sweep. Assumes nothing.
 use mathlib.Core.Path.{_≡_, refl, sym, ap, _∙_}
-use mathlib.Core.Bool.{Bool, true, false, _&&_}
+use mathlib.Core.Bool.{true}
 use mathlib.Core.List.{List, [], _∷_}
 use Prim.Native.Nat.{ℕ}
 use Rattle.std.proofs.shelf.Tests.{and-parts, false≢true}
-use Rattle.pages.specs.Lists.{pick, each, every, none-of}
+use Rattle.pages.specs.Lists.{each, every, none-of}
+use Rattle.pages.proofs.Folds.{pick-either}
 use Rattle.questions.specs.Query.{Query}
 use Rattle.questions.specs.Order.{found}
-use Rattle.documents.specs.Document.{Doc}
 use Rattle.reports.specs.Command.{Command, put, remove, note, ask, how-many, fetch, list-words, sweep}
 use Rattle.reports.specs.Plain.{Plain, Turn, turn, named, first-hits, hit-row}
 use Rattle.reports.specs.Promise.{turns, not-noting, Same-till-noted}
 
-pick-of : {A B : Type 0} (f : A → B) (b : Bool) (x y : A) (z : B) → f x ≡ z → f y ≡ z → f (pick b x y) ≡ z
-pick-of f true x y z h k = h
-pick-of f false x y z h k = k
-
 pub turn-keeps-asked : (w : Plain) (c : Command) → not-noting c ≡ true → turn w c .next .asked ≡ w .asked
 unfolding turn not-noting
 turn-keeps-asked w (put n t b) h = refl
-turn-keeps-asked w (remove n) h = pick-of (λ (t : Turn). t .next .asked) (none-of (named n (w .coming))) _ _ (w .asked) refl refl
+turn-keeps-asked w (remove n) h = pick-either (λ (t : Turn). t .next .asked ≡ w .asked) (none-of (named n (w .coming))) _ _ refl refl
 turn-keeps-asked w note h = absurd (false≢true h)
 turn-keeps-asked w (ask k q) h = refl
 turn-keeps-asked w (how-many q) h = refl
-turn-keeps-asked w (fetch n) h = pick-of (λ (t : Turn). t .next .asked) (none-of (named n (w .asked))) _ _ (w .asked) refl refl
+turn-keeps-asked w (fetch n) h = pick-either (λ (t : Turn). t .next .asked ≡ w .asked) (none-of (named n (w .asked))) _ _ refl refl
 turn-keeps-asked w (list-words p k) h = refl
 turn-keeps-asked w sweep h = absurd (false≢true h)
 
