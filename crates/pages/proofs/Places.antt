@@ -8,7 +8,8 @@ use native.Mathlib.Numerals.{add-one}
 use lib.ListN.{length, take, drop, getD, set, length-append, length-take, length-drop}
 use Rattle.std.proofs.shelf.Lists.{take-append-drop, take-at, drop-at, drop-drop, take-take, set-at, take-more, drop-more, length-take-le}
 use Rattle.pages.specs.Bytes.{in-bytes, eight}
-use Rattle.pages.specs.Places.{written}
+use Rattle.pages.specs.Places.{written, in-eights}
+use Rattle.pages.proofs.Bytes.{length-eight}
 
 pub length-written : (out : List ℕ) (at : ℕ) (bs : List ℕ) → at + length bs ≤ length out → length (written out at bs) ≡ length out
 unfolding written
@@ -50,3 +51,20 @@ in-bytes-above zero n bs = let e : n / 1 ≡ n = omega arith in ap (λ m. m % 25
 in-bytes-above (suc k) n bs =
     let e : n / 256 / 256 ^ k ≡ n / 256 ^ suc k = div-div-eq-div-mul n 256 (256 ^ k) ∙ ap (λ m. n / m) (sym (pow-succ' 256 k)) in
     in-bytes-above k (n / 256) (n % 256 ∷ bs) ∙ ap (λ m. m % 256 ∷ in-bytes k (n / 256) (n % 256 ∷ bs)) e
+
+-- the same, of what three lists were in turn
+pub written-then : (o₀ : List ℕ) {o₁ o₂ : List ℕ} (at n : ℕ) (xs ys : List ℕ) → at ≤ length o₀ → n ≡ at + length xs → o₁ ≡ written o₀ at xs → o₂ ≡ written o₁ n ys → o₂ ≡ written o₀ at (xs ++ ys)
+written-then o₀ {o₁} {o₂} at n xs ys h e p q = let w = written-written o₀ at xs ys h in cc
+
+pub length-in-eights : (ns : List ℕ) → length (in-eights ns) ≡ 8 * length ns
+length-in-eights [] = refl
+length-in-eights (n ∷ ns) = simp (length-append, length-eight) (omega (arith, length-in-eights ns))
+
+pub in-eights-append : (xs ys : List ℕ) → in-eights (xs ++ ys) ≡ in-eights xs ++ in-eights ys
+in-eights-append [] ys = refl
+in-eights-append (x ∷ xs) ys = ap (λ z. eight x ++ z) (in-eights-append xs ys) ∙ sym (append-assoc (eight x) (in-eights xs) (in-eights ys))
+
+-- numbers written after numbers
+pub numbers-then : (o₀ : List ℕ) {o₁ o₂ : List ℕ} (at n : ℕ) (xs ys : List ℕ) → at ≤ length o₀ → n ≡ at + 8 * length xs → o₁ ≡ written o₀ at (in-eights xs) → o₂ ≡ written o₁ n (in-eights ys)
+    → o₂ ≡ written o₀ at (in-eights (xs ++ ys))
+numbers-then o₀ at n xs ys h e p q = written-then o₀ at n (in-eights xs) (in-eights ys) h (omega (arith, length-in-eights xs)) p q ∙ ap (written o₀ at) (sym (in-eights-append xs ys))

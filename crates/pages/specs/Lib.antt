@@ -2,3 +2,4 @@ pub mod Lists
 pub mod Bytes
 pub mod Device
 pub mod Places
+pub mod Head
