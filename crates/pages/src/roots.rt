@@ -7,7 +7,8 @@ ghost use lib.ListN.{length};
 ghost use Rattle.pages.specs.Lists.{pick, zeros};
 ghost use mathlib.Core.List.{[], _∷_};
 ghost use Rattle.pages.specs.Places.{written, in-eights};
-ghost use Rattle.pages.specs.Head.{segment-numbers, root-numbers, head-numbers, head-page, segment-at, root-at, head-at, copies-agree, read-head, chosen};
+ghost use Rattle.pages.specs.Head.{segment-numbers, root-numbers, head-numbers, head-page, segment-at, root-at, head-at, copies-agree, read-head, chosen, Heads-kept};
+ghost use Rattle.pages.specs.Commit.{Commit-atomic};
 use crate::numbers::number_at;
 use crate::numbers::put_number;
 
@@ -85,6 +86,20 @@ pub fn choose(first: Option<Head>, second: Option<Head>) -> Option<Standing>
             Standing { page: 0, head: a }
         }),
     }
+}
+
+// What was written is read, of a torn write nothing is, and a blank page is the empty head. A theorem; there is nothing to compute.
+pub fn heads_are_kept() -> u8
+    ensures { λ _. ⌜ Heads-kept ⌝ }
+{
+    0
+}
+
+// The next head is written to the head page that is not in use: whatever a stop leaves of it, the old head or the new one counts. A theorem.
+pub fn commit_is_atomic() -> u8
+    ensures { λ _. ⌜ Commit-atomic ⌝ }
+{
+    0
 }
 
 // Whether the 168 bytes of the head and their copy in the second half of the page are the same.
