@@ -4,3 +4,4 @@ pub mod Order
 pub mod Best
 pub mod Places
 pub mod Spelling
+pub mod Reading

@@ -1,4 +1,9 @@
 pub mod Command
+pub mod Reading
 pub mod Plain
 pub mod Run
+pub mod Moves
+pub mod Machine
+pub mod Entry
+pub mod Stepping
 pub mod Promise

@@ -1,8 +1,25 @@
-ghost use mathlib.Core.Path.{_≡_};
-ghost use Rattle.reports.specs.Promise.{Spelled-once, Whole, Sets, Flushed-stays, Same-till-noted, Fair, Phrase-words, Any-order, Found-in-order, Worth-bounded};
+// The engine as a machine: one step at a time, told one thing and doing one act.
+mod machine;
+mod reader;
+mod registers;
+pub mod theorems;
 
-pub fn sets() -> u8
-    ensures { λ _. ⌜ Sets ⌝ }
-{
-    0
+pub use machine::step;
+pub use registers::CELLS;
+
+// What one step of the engine does, and what the world outside is to do about it.
+#[derive(Clone, Copy)]
+pub enum Told {
+    // Read this page, and hand it to the next step.
+    Read(u64),
+    // Write the page at the front of the lent row to this page of the device.
+    Write(u64),
+    // Bring all that was written onto the pages.
+    Flush,
+    // Show a row of so many bytes, at the front of the lent row.
+    Shows(u64),
+    // The command is done.
+    Done,
+    // The command is refused, with this number.
+    No(u64),
 }
