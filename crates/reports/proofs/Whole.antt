@@ -26,11 +26,11 @@ abbrev nothing-kept : Plain
 nothing-kept = record { asked = []; coming = []; gone = [] }
 
 -- while no command is known, nothing is ever kept
-abbrev Down : Device → Plain → Type 0
-Down d s = s ≡ nothing-kept
+abbrev Down : ℕ → Device → Plain → Type 0
+Down n d s = s ≡ nothing-kept
 
-abbrev Up : World → Plain → Type 0
-Up w s = (s ≡ nothing-kept) × (st : St) × (w .memory ≡ store st) × Fits st
+abbrev Up : ℕ → World → Plain → Type 0
+Up n w s = (s ≡ nothing-kept) × (st : St) × (w .memory ≡ store st) × Fits st
 
 -- a page that nobody asked for changes nothing
 abbrev deliver : St → List ℕ → St
@@ -59,7 +59,7 @@ module _ (pages : ℕ) where
 
   boots : Boots (May none pages) after-stop own Down Up
   unfolding move own
-  boots d s q =
+  boots n d s q =
       let fit : Fits (load (zeros cells)) = fits-load (zeros cells) (length-zeros cells) in
       well (λ d₁. s ≡ nothing-kept) (λ st d₁ ss r reply. (ss ≡ []) × (reply ≡ 0)) _ _
       (λ w h cs. h) (λ w ss r reply st m f h. (h .0, h .1, (q, st, m, f), (λ cs. q), (λ cs. still-nothing s q)))
@@ -75,7 +75,7 @@ module _ (pages : ℕ) where
 
   obeys : Obeys (May none pages) after-stop own Down Up
   unfolding move
-  obeys w s t (q, st, m, fit) stops =
+  obeys n w s t (q, st, m, fit) stops =
       let shown : (ss : List (List ℕ)) (r reply : ℕ) → ss ≡ [] → reply ≡ refusal-end (reply-to (read-command t)) → May none pages s t ss r reply s = λ ss r reply e f.
       subst (λ (x : List (List ℕ)). May none pages s t x r reply s) (sym e) (subst (λ (x : ℕ). May none pages s t [] r x s) (sym f) (answered s t r (read-command t) refl)) in
       let k = well (λ d₁. s ≡ nothing-kept) (λ st₁ d₁ ss r reply. (ss ≡ []) × (reply ≡ refusal-end (reply-to (read-command t)))) _ _
