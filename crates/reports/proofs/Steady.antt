@@ -24,17 +24,21 @@ use Rattle.reports.proofs.Stepping.{step-at}
 
 pub phase-law : (p : Phase) → phase-of (phase-number p) ≡ p
 phase-law Idle = refl
-phase-law Starting = refl
+phase-law First = refl
+phase-law Second = refl
 phase-law Refusing = refl
+phase-law Flushing = refl
+phase-law Heading = refl
+phase-law Settling = refl
+phase-law Finishing = refl
 
 pub load-store : (st : St) → load (store st) ≡ st
 unfolding load store
-load-store st =
-    ap (λ p. record { registers = record { phase = p; reply = st .registers .reply; pages = st .registers .pages }; rest = st .rest }) (phase-law (st .registers .phase))
+load-store st = ap (λ p. record { registers = at-phase p (st .registers); rest = st .rest }) (phase-law (st .registers .phase))
 
 -- a state that fits the memory
 abbrev pub Fits : St → Type 0
-Fits st = length (st .rest) + 3 ≡ cells
+Fits st = length (st .rest) + register-count ≡ cells
 
 pub fits-store : (st : St) → Fits st → length (store st) ≡ cells
 unfolding store
@@ -42,30 +46,32 @@ fits-store st h = omega (arith, h)
 
 pub fits-load : (m : List ℕ) → length m ≡ cells → Fits (load m)
 unfolding load
-fits-load [] h = absurd (omega (arith, h))
-fits-load (x ∷ []) h = absurd (omega (arith, h))
-fits-load (x ∷ y ∷ []) h = absurd (omega (arith, h))
-fits-load (x ∷ y ∷ z ∷ m) h = omega (arith, h)
+fits-load m h = simp length-drop (omega (arith, h))
 
--- no move touches what is behind the registers, and each keeps the other registers
+-- no move touches what is behind the registers
 moved-to : Moved St → St
 moved-to (goes st) = st
 moved-to (acts st a) = st
 
+moved-registers : Moved Registers → Registers
+moved-registers (goes r) = r
+moved-registers (acts r a) = r
+
+-- a move is one of the registers, and what is behind them stays
 pub record Kept (a b : St) : Type 0 where
   pub rest-is : b .rest ≡ a .rest
-  pub reply-is : b .registers .reply ≡ a .registers .reply
-  pub pages-is : b .registers .pages ≡ a .registers .pages
+  pub registers-are : b .registers ≡ moved-registers (move-at (a .registers .phase) (a .registers))
 
-kept-at : (p : Phase) (st : St) → Kept st (moved-to (move-at p st))
-unfolding moved-to
-kept-at Idle st = record { rest-is = refl; reply-is = refl; pages-is = refl }
-kept-at Starting st = record { rest-is = refl; reply-is = refl; pages-is = refl }
-kept-at Refusing st = record { rest-is = refl; reply-is = refl; pages-is = refl }
+kept-at : (rest : List ℕ) (m : Moved Registers) → (moved-to (with-rest rest m) .rest ≡ rest) × (moved-to (with-rest rest m) .registers ≡ moved-registers m)
+unfolding moved-to moved-registers
+kept-at rest (goes r) = (refl, refl)
+kept-at rest (acts r a) = (refl, refl)
 
 kept : (st : St) (m : Moved St) → move st ≡ m → Kept st (moved-to m)
 unfolding move
-kept st m q = subst (λ (x : Moved St). Kept st (moved-to x)) q (kept-at (st .registers .phase) st)
+kept st m q =
+    let k = kept-at (st .rest) (move-at (st .registers .phase) (st .registers)) in
+    subst (λ (x : Moved St). Kept st (moved-to x)) q (record { rest-is = k .0; registers-are = k .1 })
 
 pub kept-goes : (st st₁ : St) → move st ≡ goes st₁ → Kept st st₁
 unfolding moved-to
@@ -76,52 +82,17 @@ unfolding moved-to
 kept-acts st st₁ a q = kept st (acts st₁ a) q
 
 pub fits-kept : (a b : St) → Kept a b → Fits a → Fits b
-fits-kept a b k h = ap (λ r. length r + 3) (k .rest-is) ∙ h
+fits-kept a b k h = ap (λ r. length r + register-count) (k .rest-is) ∙ h
+
+-- all numbers of a list have 64 bits
+abbrev Bits : List ℕ → Type 0
+Bits ns = all-small ns ≡ true
 
 -- all numbers of a state have 64 bits
 pub record Small (st : St) : Type 0 where
   pub reply-small : st .registers .reply < 18446744073709551616
-  pub pages-small : st .registers .pages < 18446744073709551616
-  pub rest-small : all-small (st .rest) ≡ true
-
-small-kept : (a b : St) → Kept a b → Small a → Small b
-small-kept a b k h =
-    record { reply-small = omega (arith, k .reply-is, h .reply-small); pages-small = omega (arith, k .pages-is, h .pages-small); rest-small = ap all-small (k .rest-is) ∙ h .rest-small }
-
-phase-small : (p : Phase) → ltb (phase-number p) 18446744073709551616 ≡ true
-phase-small Idle = refl
-phase-small Starting = refl
-phase-small Refusing = refl
-
-small-store : (st : St) → Small st → all-small (store st) ≡ true
-unfolding store all-small
-small-store st h = simp (phase-small (st .registers .phase), lt-ltb _ _ (h .reply-small), lt-ltb _ _ (h .pages-small)) (h .rest-small)
-
-small-load : (m : List ℕ) → all-small m ≡ true → Small (load m)
-unfolding load all-small
-small-load [] h = record { reply-small = omega arith; pages-small = omega arith; rest-small = refl }
-small-load (x ∷ []) h = record { reply-small = omega arith; pages-small = omega arith; rest-small = refl }
-small-load (x ∷ y ∷ []) h =
-    let t = and-true _ _ (and-true _ _ h .1) in
-    record { reply-small = ltb-true _ _ (t .0); pages-small = omega arith; rest-small = refl }
-small-load (x ∷ y ∷ z ∷ m) h =
-    let t = and-true _ _ (and-true _ _ h .1) in
-    let u = and-true _ _ (t .1) in
-    record { reply-small = ltb-true _ _ (t .0); pages-small = ltb-true _ _ (u .0); rest-small = u .1 }
-
-kept-pages-small : (n : ℕ) → kept-pages n < 18446744073709551616
-kept-pages-small n = ⊎-elim (λ l. simp (lt-leb n 16777216 l) (omega arith)) (λ l. simp (le-leb n 16777216 l) (omega arith)) (order 16777216 n)
-
-reply-small-to : (x : Reading) → reply-to x < 18446744073709551616
-reply-small-to no-command = omega arith
-reply-small-to (a-command c) = omega arith
-
-small-told : (st : St) (ev : Event) → Small st → Small (after-event st ev)
-small-told st (on n) h = record { reply-small = omega arith; pages-small = kept-pages-small n; rest-small = h .rest-small }
-small-told st (said t) h = record { reply-small = reply-small-to (read-command t); pages-small = h .pages-small; rest-small = h .rest-small }
-small-told st (page p) h = h
-small-told st next h = h
-
+  pub ledger-small : Bits (ledger-numbers (st .registers .ledger))
+  pub rest-small : Bits (st .rest)
 -- STEADY: memory keeps its length, and its numbers their 64 bits, for every memory and every event
 other-step : (m : List ℕ) (ev : Event) → (length m ≡ cells → ⊥) → own .step m ev .memory ≡ m
 unfolding own own-step

@@ -1,10 +1,18 @@
-ghost use mathlib.Core.Path.{_≡_};
-ghost use Rattle.std.specs.Options.{Cases as BySome};
-ghost use Rattle.reports.specs.Command.{Command};
-ghost use Rattle.reports.specs.Reading.{no-command, a-command, read-command};
+ghost use Rattle.reports.specs.Request.{Reads};
+#[derive(Clone, Copy)]
+pub enum Request<'a> {
+    Put { name: u64, title: &'a [u8], body: &'a [u8] },
+    Remove(u64),
+    Note,
+    Ask(u64, &'a [u8]),
+    Count(&'a [u8]),
+    Fetch(u64),
+    Words(&'a [u8], u64),
+    Sweep,
+}
 // stub
-pub fn read_command(bytes: &[u8]) -> Option<u64>
-    ensures { λ r. ⌜ BySome r (read-command (now (bytes .entry)) ≡ no-command) (λ x. ((c : Command) × (read-command (now (bytes .entry)) ≡ a-command c))) ⌝ }
+pub fn read_command<'a>(bytes: &'a [u8]) -> Option<Request<'a>>
+    ensures { λ r. ⌜ Reads (now (bytes .entry)) r ⌝ }
 {
     None
 }
