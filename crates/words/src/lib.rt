@@ -1,1 +1,108 @@
-// placeholder
+// The words of a text, one after the other as they stand in it, and their order. The text is lent and never copied:
+// a word is its place in the text, and capitals are made small as bytes are compared.
+ghost use mathlib.Core.Path.{_≡_};
+ghost use mathlib.Core.List.{[]};
+ghost use Prim.Native.Nat.{ℕ, _+_, _-_, _≤_, _<_};
+ghost use lib.ListN.{length, getD, take, drop};
+ghost use Rattle.std.specs.Options.{Cases};
+ghost use Rattle.words.specs.Words.{in-word, small, words};
+ghost use Rattle.words.specs.Laws.{Words-stand, Order-stands};
+ghost use Rattle.words.specs.Stretches.{run, gap, stretch, word-at, to-come, Found};
+
+// A word where it stands: its first byte, how many of its bytes count (at most 64), and where its stretch of bytes ends.
+#[derive(Clone, Copy, Debug, PartialEq)]
+pub struct Word {
+    pub start: usize,
+    pub len: usize,
+    pub end: usize,
+}
+
+// Letters, digits and bytes from 128 up make words.
+pub fn in_word(b: u8) -> bool
+    ensures { λ r. ⌜ r ≡ in-word b ⌝ }
+{
+    b.is_ascii_alphanumeric() || b >= 128
+}
+
+// A capital letter made small; any other byte as it is.
+pub fn made_small(b: u8) -> u8
+    ensures { λ r. ⌜ r ≡ small b ⌝ }
+{
+    if b.is_ascii_uppercase() { b + 32 } else { b }
+}
+
+// Where a run of bytes ends that begins at `at`: bytes that make words, or, if `wordy` is false, bytes that make none.
+fn run_end(text: &[u8], at: usize, wordy: bool) -> usize
+    ensures { λ r. ⌜ r ≡ at + run wordy (drop at (now (text .entry))) ⌝ }
+{
+    let mut i = at;
+    while i < text.len() && in_word(text[i]) == wordy {
+        i += 1;
+    }
+    i
+}
+
+// The next word from `at` on, or none if no byte that makes words is left. To go on, ask from the word's `end`.
+pub fn word_from(text: &[u8], at: usize) -> Option<Word>
+    ensures { λ r. ⌜ Cases r (to-come (now (text .entry)) at ≡ []) (Found (now (text .entry)) at) ⌝ }
+{
+    let start = run_end(text, at, false);
+    if start >= text.len() {
+        return None;
+    }
+    let end = run_end(text, start, true);
+    Some(Word { start, len: (end - start).min(64), end })
+}
+
+// The words of a text, in order as they stand in it.
+#[derive(Drop)]
+pub struct Words<'a> {
+    text: &'a [u8],
+    at: usize,
+}
+
+impl<'a> Words<'a> {
+    pub fn new(text: &'a [u8]) -> Self
+        ensures text { λ r. ⌜ now (r .text) ≡ now (text .entry) ⌝ }
+        ensures first { λ r. ⌜ r .at ≡ 0 ⌝ }
+    {
+        Words { text, at: 0 }
+    }
+
+    // The next word. What was to come is this word and what is to come after it, or nothing.
+    pub fn next_word(&mut self) -> Option<Word>
+        ensures text { λ r. ⌜ now (now (self .exit) .text) ≡ now (now (self .entry) .text) ⌝ }
+        ensures word { λ r. ⌜ Cases r (to-come (now (now (self .entry) .text)) (now (self .entry) .at) ≡ []) (Found (now (now (self .entry) .text)) (now (self .entry) .at)) ⌝ }
+        ensures next { λ r. ⌜ Cases r (now (self .exit) .at ≡ now (self .entry) .at) (λ w. now (self .exit) .at ≡ w .end) ⌝ }
+    {
+        let word = word_from(self.text, self.at)?;
+        self.at = word.end;
+        Some(word)
+    }
+}
+
+// How many words a text has.
+pub fn count(text: &[u8]) -> u64
+    ensures { λ r. ⌜ r ≡ length (words (now (text .entry))) ⌝ }
+{
+    let mut n = 0;
+    let mut left = Words::new(text);
+    while let Some(_word) = left.next_word() {
+        n += 1;
+    }
+    n
+}
+
+// The words of every text: cut at each byte that makes none, of 1 to 64 bytes, small, few enough for the text.
+pub fn words_stand() -> u8
+    ensures { λ _. ⌜ Words-stand ⌝ }
+{
+    0
+}
+
+// The order of words is a strict total order.
+pub fn order_stands() -> u8
+    ensures { λ _. ⌜ Order-stands ⌝ }
+{
+    0
+}
