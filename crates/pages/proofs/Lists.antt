@@ -31,6 +31,10 @@ same-refl (x ∷ a) = simp (eq-eqb x x refl, same-refl a)
 pub same-from : (a b : List ℕ) → a ≡ b → same a b ≡ true
 same-from a b e = subst (λ (c : List ℕ). same a c ≡ true) e (same-refl a)
 
+pub same-next : (x y : ℕ) (a b : List ℕ) → x ≡ y → same (x ∷ a) (y ∷ b) ≡ same a b
+unfolding same
+same-next x y a b h = simp (eq-eqb x y h)
+
 -- `earlier` at two lists by their first elements
 pub earlier-less : (x y : ℕ) (a b : List ℕ) → x < y → earlier (x ∷ a) (y ∷ b) ≡ true
 unfolding earlier

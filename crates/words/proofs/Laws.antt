@@ -7,7 +7,7 @@ use Prim.Native.Nat.{ℕ, zero, suc, _+_, _-_, _*_, _≤_, _<_, min}
 use native.Mathlib.Omega.{arith}
 use lib.Dec.{eqb, ltb, leb}
 use lib.ListN.{length, take, drop, getD, length-take, length-drop}
-use lib.Seq.{append-snoc, drop-drop, take-take}
+use lib.Seq.{take-nil, append-snoc, drop-drop, take-take}
 use Rattle.std.proofs.shelf.Lists.{at-drop-more, at-drop-all, drop-all, take-all, length-append}
 use Rattle.std.proofs.shelf.Tests.{and-parts, and-from, cases-bool, both-ways, cases-lt, le-leb, lt-ltb, leb-true, leb-false, ltb-true, ltb-false}
 use Rattle.std.proofs.shelf.Ways.{tells}
@@ -136,6 +136,9 @@ module _ (bs : List ℕ) (at s : ℕ) (starts : s ≡ at + gap (drop at bs)) whe
         comes = come-from-start ∙ words-first (drop s bs) some ∙ (λ i. each small (take (least i) (drop s bs)) ∷ words (rest i));
       }
 
+pub some-to-come : (bs : List ℕ) (at : ℕ) (w : Word) → Found bs at w → 1 ≤ length (to-come bs at)
+some-to-come bs at w f = let e = ap length (f .comes) in omega arith
+
 ended-append : (w : List ℕ) (us vs : List (List ℕ)) → ended w us ++ vs ≡ ended w (us ++ vs)
 ended-append [] us vs = refl
 ended-append (c ∷ cs) us vs = refl
@@ -230,3 +233,16 @@ words-few bs =
     let some = twice-taken (words bs) (words-every (λ _. true) (λ _. true) (λ w. leb 1 (length w)) (λ _ _ _. refl) (λ w h _ _. le-leb 1 (length w) h) bs (every-true bs)) in
     let fit = words-fit bs in
     omega arith
+
+-- a part of a list whose bounds are held within the list
+pub clamped : (bs : List ℕ) (start n s m : ℕ) → s ≡ min start (length bs) → m ≡ min n (length bs - s) → take (s + m - s) (drop s bs) ≡ take n (drop start bs)
+clamped bs start n s m e f =
+    ⊎-elim
+    (λ l. let g : s ≡ start = omega arith in
+        let h : s + m - s ≡ m = omega arith in
+        ⊎-elim
+        (λ k. let i : m ≡ n = omega arith in (λ j. take ((h ∙ i) j) (drop (g j) bs)))
+        (λ k. take-all _ (drop s bs) (omega (arith, length-drop s bs)) ∙ sym (take-all n (drop s bs) (omega (arith, length-drop s bs))) ∙ ap (λ t. take n (drop t bs)) g)
+        (cases-lt n (length bs - s)))
+    (λ l. ap (take (s + m - s)) (drop-all s bs (omega arith)) ∙ take-nil (s + m - s) ∙ sym (ap (take n) (drop-all start bs l) ∙ take-nil n))
+    (cases-lt start (length bs))

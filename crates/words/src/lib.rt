@@ -6,8 +6,12 @@ ghost use Prim.Native.Nat.{ℕ, _+_, _-_, _≤_, _<_};
 ghost use lib.ListN.{length, getD, take, drop};
 ghost use Rattle.std.specs.Options.{Cases};
 ghost use Rattle.words.specs.Words.{in-word, small, words};
+ghost use Rattle.pages.specs.Lists.{pick, each};
+ghost use Rattle.words.specs.Compared.{read-as, Compared};
 ghost use Rattle.words.specs.Laws.{Words-stand, Order-stands};
 ghost use Rattle.words.specs.Stretches.{run, gap, stretch, word-at, to-come, Found};
+
+use std::cmp::Ordering;
 
 // A word where it stands: its first byte, how many of its bytes count (at most 64), and where its stretch of bytes ends.
 #[derive(Clone, Copy, Debug, PartialEq)]
@@ -15,6 +19,17 @@ pub struct Word {
     pub start: usize,
     pub len: usize,
     pub end: usize,
+}
+
+impl Word {
+    // The bytes of the word that count, where it stands in its text. Of a text that is too short, what is there.
+    pub fn bytes<'a>(self, text: &'a [u8]) -> &'a [u8]
+        ensures { λ r. ⌜ now r ≡ take (self .len) (drop (self .start) (now (text .entry))) ⌝ }
+    {
+        let start = self.start.min(text.len());
+        let end = start + self.len.min(text.len() - start);
+        &text[start..end]
+    }
 }
 
 // Letters, digits and bytes from 128 up make words.
@@ -91,6 +106,48 @@ pub fn count(text: &[u8]) -> u64
         n += 1;
     }
     n
+}
+
+// A byte with a capital made small, or as it is.
+fn read(b: u8, made: bool) -> u8
+    ensures { λ r. ⌜ r ≡ pick made (small b) b ⌝ }
+{
+    if made { made_small(b) } else { b }
+}
+
+// Compares two rows of bytes, each with capitals made small or as they are: the first byte that differs decides,
+// and of two rows that agree as far as they go the shorter one is the earlier one.
+fn compare(a: &[u8], made_a: bool, b: &[u8], made_b: bool) -> Ordering
+    ensures { λ r. ⌜ Compared r (read-as «made_a» (now (a .entry))) (read-as «made_b» (now (b .entry))) ⌝ }
+{
+    for i in 0..a.len().min(b.len()) {
+        match read(a[i], made_a).cmp(&read(b[i], made_b)) {
+            Ordering::Equal => {}
+            order => return order,
+        }
+    }
+    a.len().cmp(&b.len())
+}
+
+// Compares two keys, byte by byte as they are.
+pub fn compare_keys(a: &[u8], b: &[u8]) -> Ordering
+    ensures { λ r. ⌜ Compared r (now (a .entry)) (now (b .entry)) ⌝ }
+{
+    compare(a, false, b, false)
+}
+
+// Compares a word where it stands in a text with a key: capitals of the word are made small.
+pub fn compare_to_key(word: &[u8], key: &[u8]) -> Ordering
+    ensures { λ r. ⌜ Compared r (each small (now (word .entry))) (now (key .entry)) ⌝ }
+{
+    compare(word, true, key, false)
+}
+
+// Compares two words where they stand in a text, or in two.
+pub fn compare_words(a: &[u8], b: &[u8]) -> Ordering
+    ensures { λ r. ⌜ Compared r (each small (now (a .entry))) (each small (now (b .entry))) ⌝ }
+{
+    compare(a, true, b, true)
 }
 
 // The words of every text: cut at each byte that makes none, of 1 to 64 bytes, small, few enough for the text.
