@@ -1,15 +1,15 @@
 -- Laws of the functions on lists: `same` is equality, `earlier` is a strict total order, and what `every` and `each` say of parts.
 use mathlib.Core.Path.{_≡_, refl, sym, ap, subst, _∙_}
-use mathlib.Core.Bool.{Bool, true, false, _&&_}
+use mathlib.Core.Bool.{Bool, true, false}
 use mathlib.Core.List.{List, [], _∷_, _++_}
 use mathlib.Core.Logic.{_⊎_, inl, inr, ⊎-elim}
-use Prim.Native.Nat.{ℕ, zero, suc, _+_, _≤_, _<_}
+use Prim.Native.Nat.{ℕ, zero, suc, _<_}
 use native.Mathlib.Omega.{arith}
-use lib.Dec.{eqb, ltb}
+use lib.Dec.{eqb}
 use lib.ListN.{length, take, drop}
 use borrow.Author.Tests.{lt-ltb, le-ltb, eq-eqb, ne-eqb}
-use Rattle.std.proofs.shelf.Tests.{cases-order, and-parts, ltb-true, eqb-true, cases-bool, both-ways}
-use Rattle.pages.specs.Lists.{pick, every, each, same, earlier}
+use Rattle.std.proofs.shelf.Tests.{cases-order, and-parts, eqb-true, cases-bool, both-ways}
+use Rattle.pages.specs.Lists.{every, each, same, earlier}
 
 -- `same` is equality
 pub same-is : (a b : List ℕ) → same a b ≡ true → a ≡ b
