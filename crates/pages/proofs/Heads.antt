@@ -24,7 +24,7 @@ use Rattle.pages.specs.Head.{segment-at, root-at, head-at, head-numbers, head-
 use Rattle.pages.proofs.Bytes.{and-true, length-eight, eight-is-bytes, from-eight-eight}
 use Rattle.pages.proofs.Folds.{every-append}
 use Rattle.pages.proofs.Device.{take-half, drop-half, zeros-bytes}
-use Rattle.pages.proofs.Places.{length-in-eights}
+use Rattle.pages.proofs.Places.{length-in-eights, number-at-fits}
 
 -- what is read: by cases
 pub read-agreeing : (p : Page) → length p ≡ 512 → copies-agree p ≡ true → read-head p ≡ Some (head-at p 0)
@@ -185,19 +185,30 @@ read-torn h old f new =
     absurd (new (ap (from-eight 0) (sym (take-take 8 168 (drop 256 old) (lit≤ tt))) ∙ ap (λ x. from-eight 0 (take 8 x)) (sym q) ∙ sequence-of h f)))
     (read-differing p) (cases-bool (copies-agree p))
 
--- a page that is read has the sequence in both copies
+-- a page on which a head is read: its copies agree, and the head is what stands there
+pub read-is : (p : Page) (h : Head) → read-head p ≡ Some h → (copies-agree p ≡ true) × (head-at p 0 ≡ h)
+read-is p h r =
+    ⊎-elim
+    (λ a.
+    ⊎-elim (λ l. (a, cc (read-agreeing p l a))) (λ l. let z : _≡_ {A = ℕ} 0 1 = cc (read-no-page p l) in absurd (omega arith)) (cases-eq (length p) 512))
+    (λ a. let z : _≡_ {A = ℕ} 0 1 = cc (read-differing p a) in absurd (omega arith)) (cases-bool (copies-agree p))
+
+-- its second copy has the head's sequence, too
 pub second-sequence : (p : Page) (h : Head) → read-head p ≡ Some h → number-at p 256 ≡ h .sequence
 unfolding head-at
 second-sequence p h r =
-    ⊎-elim
-    (λ a.
-    let e : take 168 p ≡ take 168 (drop 256 p) = same-decides (take 168 p) (take 168 (drop 256 p)) .0 a in
-    let s : number-at p 256 ≡ number-at p 0 = ap (from-eight 0) (sym (take-take 8 168 (drop 256 p) (lit≤ tt)) ∙ ap (take 8) (sym e) ∙ take-take 8 168 p (lit≤ tt)) in
-    ⊎-elim
-    (λ l. let g : head-at p 0 ≡ h = cc (read-agreeing p l a) in s ∙ ap (λ (x : Head). x .sequence) g)
-    (λ l. let z : _≡_ {A = ℕ} 0 1 = cc (read-no-page p l) in absurd (omega arith))
-    (cases-eq (length p) 512))
-    (λ a. let z : _≡_ {A = ℕ} 0 1 = cc (read-differing p a) in absurd (omega arith)) (cases-bool (copies-agree p))
+    let i = read-is p h r in
+    let e : take 168 p ≡ take 168 (drop 256 p) = same-decides (take 168 p) (take 168 (drop 256 p)) .0 (i .0) in
+    ap (from-eight 0) (sym (take-take 8 168 (drop 256 p) (lit≤ tt)) ∙ ap (take 8) (sym e) ∙ take-take 8 168 p (lit≤ tt)) ∙ ap (λ (x : Head). x .sequence) (i .1)
+
+-- and each of its numbers is one of eight bytes
+pub read-fits : (p : Page) (h : Head) → a-page p ≡ true → read-head p ≡ Some h → fits-eights h ≡ true
+unfolding fits-eights head-at root-at segment-at
+read-fits p h a r =
+    let b : all-bytes p ≡ true = and-true (eqb (length p) 512) (all-bytes p) a .1 in
+    let f : (at : ℕ) → ltb (number-at p at) 18446744073709551616 ≡ true = λ at. lt-ltb _ _ (number-at-fits p at b) in
+    let g : fits-eights (head-at p 0) ≡ true = simp f in
+    ap fits-eights (sym (read-is p h r .1)) ∙ g
 
 pub read-blank : read-head (zeros 512) ≡ Some empty-head
 unfolding read-head zeros head-at root-at segment-at from-eight same
@@ -205,4 +216,4 @@ read-blank = refl
 
 pub heads-kept : Heads-kept
 unfolding Heads-kept
-heads-kept = (head-page-is-page, read-written, read-torn, read-blank)
+heads-kept = (head-page-is-page, read-written, read-torn, read-blank, read-fits)

@@ -53,7 +53,7 @@ root-at bs at =
 unfoldable pub head-at : List ℕ → ℕ → Head
 head-at bs at = record { sequence = number-at bs at; half = number-at bs (at + 8); end = number-at bs (at + 16); root = root-at bs (at + 24) }
 
--- the 168 bytes that are read as a head, and their second copy
+-- the 168 bytes that are read as a head, and their second copy; no head hangs on the other bytes, so they are not compared
 abbrev pub copies-agree : Page → Bool
 copies-agree p = same (take 168 p) (take 168 (drop 256 p))
 
@@ -86,9 +86,10 @@ empty-head =
     }
 
 -- What was written is read; of a write that a stop tore, over a page whose second copy has another sequence, no head is read, whatever else stood
--- there; a blank page is the empty head.
+-- there; a blank page is the empty head; and the numbers of a head that is read fit in eight bytes.
 unfoldable pub Heads-kept : Type 0
 Heads-kept =
     ((h : Head) → a-page (head-page h) ≡ true) × ((h : Head) → fits-eights h ≡ true → read-head (head-page h) ≡ Some h)
     × ((h : Head) (old : Page) → fits-eights h ≡ true → (number-at old 256 ≡ h .sequence → ⊥) → read-head (half (head-page h) old) ≡ None)
     × (read-head (zeros 512) ≡ Some empty-head)
+    × ((p : Page) (h : Head) → a-page p ≡ true → read-head p ≡ Some h → fits-eights h ≡ true)

@@ -188,3 +188,79 @@ fn put(page: &mut [u8], at: usize, n: u64)
 {
     put_number(page, at, n);
 }
+
+#[cfg(test)]
+mod tests {
+    use super::*;
+    use std::test::*;
+
+    const SEQUENCES: [u64; 5] = [0, 1, 2, 256, u64::MAX];
+
+    fn head_of(sequence: u64) -> Head {
+        let segment = Segment {
+            start: 2,
+            rows: 3,
+            bytes: 1400,
+            docs: 1,
+        };
+        let empty = Segment {
+            start: 0,
+            rows: 0,
+            bytes: 0,
+            docs: 0,
+        };
+        Head {
+            sequence,
+            half: 0,
+            end: 6,
+            root: Root {
+                count: 7,
+                weight: 90,
+                first: segment,
+                second: empty,
+                third: empty,
+                fourth: empty,
+            },
+        }
+    }
+
+    fn keep_second_half(new: &mut [u8], old: &[u8]) {
+        if new.len() == 512 && old.len() == 512 {
+            new[256..512].copy_from_slice(&old[256..512]);
+        }
+    }
+
+    // Whether a head is read where the first half of a new page came onto an old one.
+    fn torn_is_read(old: u64, new: u64) -> bool {
+        let mut page = [0; 512];
+        let mut torn = [0; 512];
+        write_head(head_of(old), &mut page);
+        write_head(head_of(new), &mut torn);
+        keep_second_half(&mut torn, &page);
+        read_head(&torn).is_some()
+    }
+
+    fn torn_over(old: u64) -> Result<(), Fail> {
+        for new in SEQUENCES {
+            check_eq(torn_is_read(old, new), old == new)?;
+        }
+        Ok(())
+    }
+
+    #[test]
+    fn torn() -> Result<(), Fail> {
+        for old in SEQUENCES {
+            torn_over(old)?;
+        }
+        Ok(())
+    }
+
+    #[test]
+    fn blank() -> Result<(), Fail> {
+        let head = read_head(&[0; 512]).ok_or("no head")?;
+        check_eq(head.sequence, 0)?;
+        check_eq(head.root.count, 0)?;
+        check(read_head(&[0; 511]).is_none())?;
+        check(!write_head(head, &mut [0; 511]))
+    }
+}
