@@ -4,7 +4,7 @@ use mathlib.Core.Bool.{Bool, true, false, _&&_}
 use mathlib.Core.List.{List, [], _∷_, _++_, append-assoc, append-nil}
 use Prim.Native.Nat.{ℕ, zero, suc, _+_, _-_, _≤_, _<_}
 use native.Mathlib.Omega.{arith}
-use lib.Dec.{eqb, ltb, leb}
+use lib.Dec.{eqb, ltb, leb, lit<}
 use lib.ListN.{length}
 use Rattle.std.proofs.shelf.Tests.{and-parts, and-from, ltb-true, leb-true, lt-ltb, le-leb}
 use Rattle.pages.specs.Lists.{pick, or, none-of, every}
@@ -13,7 +13,7 @@ use Rattle.pages.proofs.Bytes.{eight-is-bytes}
 use Rattle.questions.specs.Query.{Query}
 use Rattle.questions.specs.Spelling.{query-spelled, query-fits, size, a-word, a-question}
 use Rattle.questions.specs.Reading.{Read, nothing, got, then, only, read-byte, read-number, read-bytes, read-query, Asked}
-use Rattle.questions.proofs.Reading.{then-on, pick-got, got-same, choose, every-append, every-both, Sound, step, sound-only, reads-only, reads-number, sound-number, reads-bytes, sound-bytes, sound-byte, with-length-bytes, word-bytes, reads-query, sound-query, asked-spelled, Asks, query-bytes}
+use Rattle.questions.proofs.Reading.{then-on, pick-got, got-same, choose, every-append, every-both, Sound, step, sound-only, reads-only, reads-number, sound-number, reads-within, sound-within, reads-bytes, sound-bytes, sound-byte, with-length-bytes, word-bytes, reads-query, sound-query, asked-spelled, Asks, query-bytes}
 use Rattle.reports.specs.Command.{Command, put, remove, note, ask, how-many, fetch, list-words, sweep, spelled, fits}
 use Rattle.reports.specs.Reading.{Reading, no-command, a-command, read-limit, read-title, read-body, read-beginning, read-kind, all-of-it, read-command}
 use Rattle.reports.specs.Promise.{Said}
@@ -33,16 +33,6 @@ a-body b = ltb (length b) 65536
 
 abbrev a-beginning : List ℕ → Bool
 a-beginning p = or (none-of p) (a-word p)
-
-reads-limit : (k : ℕ) (rest : List ℕ) → a-limit k ≡ true → read-limit (eight k ++ rest) ≡ got k rest
-unfolding read-limit
-reads-limit k rest h =
-    let e = and-parts (leb 1 k) (leb k 1000) h in
-    reads-only eight read-number a-limit k rest (reads-number k rest (omega (arith, leb-true k 1000 (e .1)))) h
-
-sound-limit : Sound eight (λ k. a-limit k ≡ true) read-limit
-unfolding read-limit
-sound-limit bs k rest ok h = let s = sound-only eight _ read-number a-limit sound-number bs k rest ok h in (s .0, s .1 .1)
 
 -- bytes with their count that pass a test
 reads-tested : (p : List ℕ → Bool) (xs rest : List ℕ) → p xs ≡ true → length xs < big → then (read-bytes (with-length xs ++ rest)) (only p) ≡ got xs rest
@@ -88,14 +78,14 @@ reads-command (remove n) rest fit = then-on _ (reads-number n rest (ltb-true n b
 reads-command note rest fit = refl
 reads-command (ask k q) rest fit =
     let e = and-parts (a-limit k) (a-question q) fit in
-    then-on _ (ap read-limit (append-assoc (eight k) (query-spelled q) rest) ∙ reads-limit k (query-spelled q ++ rest) (e .0)) ∙ then-on _ (reads-question q rest (e .1))
+    then-on _ (ap read-limit (append-assoc (eight k) (query-spelled q) rest) ∙ reads-within 1 1000 k (query-spelled q ++ rest) (lit< tt) (e .0)) ∙ then-on _ (reads-question q rest (e .1))
 reads-command (how-many q) rest fit = then-on _ (reads-question q rest fit)
 reads-command (fetch n) rest fit = then-on _ (reads-number n rest (ltb-true n big fit))
 reads-command (list-words p k) rest fit =
     let e = and-parts (a-limit k) (a-beginning p) fit in
     then-on _ (ap (λ x. then (read-bytes x) (only a-beginning)) (append-assoc (with-length p) (eight k) rest)
         ∙ reads-tested a-beginning p (eight k ++ rest) (e .1) (beginning-is p (e .1) .0))
-    ∙ then-on _ (reads-limit k rest (e .0))
+    ∙ then-on _ (reads-within 1 1000 k rest (lit< tt) (e .0))
 reads-command sweep rest fit = refl
 
 spelled-bytes : (c : Command) → fits c ≡ true → all-bytes (spelled c) ≡ true
@@ -171,12 +161,12 @@ sound-kind kind bs c rest ok h =
     (λ h₁. choose kind 2 _ _ c rest h₁ (λ e i. at 2 e (stands-one 2 eight _ read-number sound-number remove (λ n l. (refl, lt-ltb n big l)) bs c rest ok i))
         (λ h₂. choose kind 3 _ _ c rest h₂ (λ e i. at 3 e (got-same (Stands 3 bs) i (refl, refl)))
             (λ h₃. choose kind 4 _ _ c rest h₃
-                (λ e i. at 4 e (stands-two 4 eight _ read-limit sound-limit asked-spelled _ (read-query 31 31) sound-question (λ k a. ask k (a .query)) (λ k a t u. (refl, and-from _ _ t u)) bs c rest ok i))
+                (λ e i. at 4 e (stands-two 4 eight _ read-limit (sound-within 1 1000) asked-spelled _ (read-query 31 31) sound-question (λ k a. ask k (a .query)) (λ k a t u. (refl, and-from _ _ t u)) bs c rest ok i))
                 (λ h₄. choose kind 5 _ _ c rest h₄
                     (λ e i. at 5 e (stands-one 5 asked-spelled _ (read-query 31 31) sound-question (λ a. how-many (a .query)) (λ a t. (refl, t)) bs c rest ok i))
                     (λ h₅. choose kind 6 _ _ c rest h₅ (λ e i. at 6 e (stands-one 6 eight _ read-number sound-number fetch (λ n l. (refl, lt-ltb n big l)) bs c rest ok i))
                         (λ h₆. choose kind 7 _ _ c rest h₆
-                            (λ e i. at 7 e (stands-two 7 with-length _ _ (sound-tested a-beginning) eight _ read-limit sound-limit list-words (λ p k t u. (refl, and-from _ _ u t)) bs c rest ok i))
+                            (λ e i. at 7 e (stands-two 7 with-length _ _ (sound-tested a-beginning) eight _ read-limit (sound-within 1 1000) list-words (λ p k t u. (refl, and-from _ _ u t)) bs c rest ok i))
                             (λ h₇. choose kind 8 _ nothing c rest h₇ (λ e i. at 8 e (got-same (Stands 8 bs) i (refl, refl)))
                                 (λ h₈. let z : _≡_ {A = ℕ} 0 1 = cc in absurd (omega arith)))))))))
 

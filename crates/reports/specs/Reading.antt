@@ -1,5 +1,4 @@
 -- Reading a command from bytes. Assumes nothing: these are definitions.
-use mathlib.Core.Bool.{Bool, _&&_}
 use mathlib.Core.List.{List, [], _∷_}
 use Prim.Native.Nat.{ℕ}
 use lib.Dec.{eqb, ltb, leb}
@@ -7,7 +6,7 @@ use lib.ListN.{length}
 use Rattle.pages.specs.Lists.{pick, or, none-of}
 use Rattle.pages.specs.Bytes.{all-bytes}
 use Rattle.questions.specs.Spelling.{a-word}
-use Rattle.questions.specs.Reading.{Read, nothing, got, then, only, read-byte, read-number, read-bytes, read-query, Asked}
+use Rattle.questions.specs.Reading.{Read, nothing, got, then, only, read-byte, read-number, read-within, read-bytes, read-query, Asked}
 use Rattle.reports.specs.Command.{Command, put, remove, note, ask, how-many, fetch, list-words, sweep}
 
 pub data Reading : Type 0 where
@@ -15,8 +14,8 @@ pub data Reading : Type 0 where
   a-command : Command → Reading
 
 -- how many hits or words are wanted: 1 to 1,000
-unfoldable pub read-limit : List ℕ → Read ℕ
-read-limit bs = then (read-number bs) (only (λ k. leb 1 k && leb k 1000))
+abbrev pub read-limit : List ℕ → Read ℕ
+read-limit bs = read-within 1 1000 bs
 
 unfoldable pub read-title : List ℕ → Read (List ℕ)
 read-title bs = then (read-bytes bs) (only (λ t. leb (length t) 255))
