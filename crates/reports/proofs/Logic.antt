@@ -1,4 +1,5 @@
--- A command that ends within so many acts, safe to be stopped before each of them.
+-- The logic of runs: a command that ends within so many acts, safe to be stopped before each of them. From one coming-up and one command done well
+-- comes `Right` for every list of what can happen. Assumes nothing.
 use mathlib.Core.Path.{_≡_, refl, sym, ap, subst, _∙_}
 use mathlib.Core.Bool.{Bool, true, false, _&&_, not}
 use mathlib.Core.List.{List, [], _∷_, _++_, append-assoc, append-nil}
@@ -23,6 +24,26 @@ unfoldable pub Well : Engine → (World → Type 0) → (World → List (List �
 Well e Safe Fin zero w ev ss r = zero ≡ suc zero
 Well e Safe Fin (suc n) w ev ss r =
     Safe w × Acts (Well e Safe Fin n) Fin w ss r (e .step (w .memory) ev .memory) (e .step (w .memory) ev .act)
+
+-- less may be asked of the worlds on the way and of the end
+weaker-act : (Fin Fin₁ : World → List (List ℕ) → ℕ → ℕ → Type 0) (Go Go₁ : World → Event → List (List ℕ) → ℕ → Type 0)
+    → ((w : World) (ss : List (List ℕ)) (r reply : ℕ) → Fin w ss r reply → Fin₁ w ss r reply)
+    → ((w : World) (ev : Event) (ss : List (List ℕ)) (r : ℕ) → Go w ev ss r → Go₁ w ev ss r)
+    → (w : World) (ss : List (List ℕ)) (r : ℕ) (m : List ℕ) (a : Act) → Acts Go Fin w ss r m a → Acts Go₁ Fin₁ w ss r m a
+weaker-act Fin Fin₁ Go Go₁ fin go w ss r m (read k) h = go _ _ _ _ h
+weaker-act Fin Fin₁ Go Go₁ fin go w ss r m (write k p) h = (h .0, go _ _ _ _ (h .1))
+weaker-act Fin Fin₁ Go Go₁ fin go w ss r m flush h = go _ _ _ _ h
+weaker-act Fin Fin₁ Go Go₁ fin go w ss r m (shows s) h = go _ _ _ _ h
+weaker-act Fin Fin₁ Go Go₁ fin go w ss r m done h = fin _ _ _ _ h
+weaker-act Fin Fin₁ Go Go₁ fin go w ss r m (refused k) h = fin _ _ _ _ h
+
+pub weaker : (e : Engine) (Safe Safe₁ : World → Type 0) (Fin Fin₁ : World → List (List ℕ) → ℕ → ℕ → Type 0)
+    → ((w : World) → Safe w → Safe₁ w) → ((w : World) (ss : List (List ℕ)) (r reply : ℕ) → Fin w ss r reply → Fin₁ w ss r reply)
+    → (n : ℕ) (w : World) (ev : Event) (ss : List (List ℕ)) (r : ℕ) → Well e Safe Fin n w ev ss r → Well e Safe₁ Fin₁ n w ev ss r
+unfolding Well
+weaker e Safe Safe₁ Fin Fin₁ safe fin zero w ev ss r h = h
+weaker e Safe Safe₁ Fin Fin₁ safe fin (suc n) w ev ss r h =
+    (safe w (h .0), weaker-act Fin Fin₁ (Well e Safe Fin n) (Well e Safe₁ Fin₁ n) fin (weaker e Safe Safe₁ Fin Fin₁ safe fin n) w ss r _ _ (h .1))
 
 abbrev pub Ended : (World → List (List ℕ) → ℕ → ℕ → Type 0) → Ran → Type 0
 Ended Fin o = Fin (o .here) (o .showed) (o .pages-used) (o .end)
@@ -92,31 +113,31 @@ cut e Safe Fin i zero w ev ss r h = absurd (omega (arith, h))
 cut e Safe Fin zero (suc n) w ev ss r h = inr (refl, h .0, grows e (suc n) w ev ss r)
 cut e Safe Fin (suc i) (suc n) w ev ss r h = cut-act Safe Fin _ _ (Well e Safe Fin n) (λ w₁ ev₁ ss₁ r₁ h₁. cut e Safe Fin i n w₁ ev₁ ss₁ r₁ h₁) w ss r _ _ (h .1)
 
--- Kept right one command at a time: what holds without power (Down) and with it (Up); that coming up goes well, and each command. Each leaves, if stopped, what was
+-- KEPT RIGHT ONE COMMAND AT A TIME: what holds without power (Down) and with it (Up); that coming up goes well, and each command. Each leaves, if stopped, what was
 -- noted before or, at its commit, after it.
 module _ {S : Type 0} (may : S → List ℕ → List (List ℕ) → ℕ → ℕ → S → Type 0) (after : S → S) (e : Engine) (Down : Device → S → Type 0) (Up : World → S → Type 0) where
-  pub Stops : S → World → Type 0
+  abbrev pub Stops : S → World → Type 0
   Stops s w = (cs : List ℕ) → Down (stopped (w .device) cs) s
 
-  pub Awake : S → World → List (List ℕ) → ℕ → ℕ → Type 0
+  abbrev pub Awake : S → World → List (List ℕ) → ℕ → ℕ → Type 0
   Awake s w ss r reply = (ss ≡ []) × (reply ≡ 0) × Up w s × Stops s w × Stops (after s) w
 
-  pub Obeyed : S → List ℕ → S → World → List (List ℕ) → ℕ → ℕ → Type 0
+  abbrev pub Obeyed : S → List ℕ → S → World → List (List ℕ) → ℕ → ℕ → Type 0
   Obeyed s t s₂ v ss r reply = may s t ss r reply s₂ × Up v s₂ × Stops (after s₂) v
 
-  pub Either-stands : S → S → World → Type 0
+  abbrev pub Either-stands : S → S → World → Type 0
   Either-stands s s₂ v = (cs : List ℕ) → Down (stopped (v .device) cs) (after s) ⊎ Down (stopped (v .device) cs) (after s₂)
 
-  pub Boots : Type 0
+  abbrev pub Boots : Type 0
   Boots = (d : Device) (s : S) → Down d s → (n : ℕ) × Well e (Stops s) (Awake s) n (record { device = d; memory = e .start }) (on (length (d .pages))) [] 0
 
-  pub Obeys : Type 0
+  abbrev pub Obeys : Type 0
   Obeys = (w : World) (s : S) (t : List ℕ) → Up w s → Stops (after s) w → (n : ℕ) × (s₂ : S) × Well e (Either-stands s s₂) (Obeyed s t s₂) n w (said t) [] 0
 
 module _ {S : Type 0} (may : S → List ℕ → List (List ℕ) → ℕ → ℕ → S → Type 0) (after : S → S) (e : Engine) (Down : Device → S → Type 0) (Up : World → S → Type 0)
     (boots : Boots may after e Down Up) (obeys : Obeys may after e Down Up) where
   -- with power or without it
-  pub Here : Bool → World → S → Type 0
+  abbrev pub Here : Bool → World → S → Type 0
   Here true w s = Up w s × Stops may after e Down Up (after s) w
   Here false w s = Down (w .device) s
 
@@ -127,7 +148,6 @@ module _ {S : Type 0} (may : S → List ℕ → List (List ℕ) → ℕ → ℕ 
   -- stopped while it comes up
   half-up : (s : S) (o full : Ran) → Cut (Stops may after e Down Up s) o full → Ended (Awake may after e Down Up s) full → (cs : List ℕ) →
       ((o .end ≡ 0) ⊎ (o .end ≡ 1000)) × (o .showed ≡ []) × Down (stopped (o .here .device) cs) s
-  unfolding Stops Awake
   half-up s o full (inl q) f cs = (inl (ap (λ x. x .end) q ∙ f .1), ap (λ x. x .showed) q ∙ f .0, subst (λ (x : Ran). Down (stopped (x .here .device) cs) s) (sym q) (f .3 cs))
   half-up s o full (inr q) f cs = (inr (q .0), nothing (o .showed) (q .2 .0) (q .2 .1 ∙ f .0), q .1 cs)
 
@@ -139,7 +159,7 @@ module _ {S : Type 0} (may : S → List ℕ → List (List ℕ) → ℕ → ℕ 
 
   halfway : (s : S) (t : List ℕ) (s₂ : S) (o full : Ran) → Cut (Either-stands may after e Down Up s s₂) o full → Ended (Obeyed may after e Down Up s t s₂) full → (cs : List ℕ) →
       (s₁ : S) × Halted s t o s₁ × Down (stopped (o .here .device) cs) (after s₁)
-  unfolding Stops Obeyed Either-stands Halted
+  unfolding Halted
   halfway s t s₂ o full (inl q) f cs =
       (s₂, inl (subst (λ (x : Ran). may s t (x .showed) (x .pages-used) (x .end) s₂) (sym q) (f .0)), subst (λ (x : Ran). Down (stopped (x .here .device) cs) (after s₂)) (sym q) (f .2 cs))
   halfway s t s₂ o full (inr q) f cs =
@@ -150,7 +170,7 @@ module _ {S : Type 0} (may : S → List ℕ → List (List ℕ) → ℕ → ℕ 
       ]
 
   pub right : (is : List Item) (up : Bool) (v : World) (s : S) → Here up v s → proper up is ≡ true → Right may after e v s is
-  unfolding Right proper Here Halted Stops Awake Obeyed Either-stands Boots Obeys
+  unfolding Right proper Halted
   right [] up v s h p = refl
   right (power ∷ is) false v s h p =
       let b = boots (v .device) s h in

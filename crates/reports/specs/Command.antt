@@ -39,6 +39,10 @@ fits (fetch n) = ltb n 18446744073709551616
 fits (list-words p k) = (leb 1 k && leb k 1000) && or (none-of p) (a-word p)
 fits sweep = true
 
+-- what is known so far: no command yet
+abbrev pub none : Command → Bool
+none c = false
+
 -- the small core: asking and counting by words and "both", and keeping documents
 unfoldable pub core-query : Query → Bool
 core-query (word f w) = true

@@ -2,4 +2,9 @@ pub mod Command
 pub mod Reading
 pub mod Plain
 pub mod Run
+pub mod Moves
+pub mod Machine
+pub mod Entry
+pub mod Stepping
 pub mod Promise
+pub mod Examples
