@@ -55,8 +55,8 @@ pub choose : {A : Type 0} {X : Type 0} (kind k : ℕ) (r s : Read A) (a : A) (re
     (kind ≡ k → r ≡ got a rest → X) → (s ≡ got a rest → X) → X
 choose kind k r s a rest h yes₁ no₁ =
     elim (cases-eq kind k) [
-      inl e ↦ yes₁ e (sym (ap (λ t. pick t r s) (eq-eqb kind k e)) ∙ h)
-    | inr e ↦ no₁ (sym (ap (λ t. pick t r s) (ne-eqb kind k e)) ∙ h)
+      | inl e ↦ yes₁ e (sym (ap (λ t. pick t r s) (eq-eqb kind k e)) ∙ h)
+      | inr e ↦ no₁ (sym (ap (λ t. pick t r s) (ne-eqb kind k e)) ∙ h)
     ]
 
 -- bytes in a row are bytes before and after each place
@@ -197,9 +197,10 @@ pub sound-phrase : Sound phrase-spelled (λ ws. (in-range 1 16 (length ws) ≡ t
 unfolding read-phrase
 sound-phrase bs ws rest ok h =
     let g = step eight _ (read-within 1 16) (sound-within 1 16) read-words bs ws rest ok h in
-    let s = sound-words (g .0) (g .1) ws rest (g .4) (g .6) in
-    (append-assoc (eight (length ws)) (flat with-length ws) rest ∙ ap (λ r. eight (length ws) ++ r) (s .0) ∙ ap (λ n. eight n ++ g .1) (s .1 .0) ∙ g .2,
-        (ap (in-range 1 16) (s .1 .0) ∙ g .5, s .1 .1))
+    let s = sound-words (g .0) (g .1) ws rest (g .4) (g .6) in (
+      append-assoc (eight (length ws)) (flat with-length ws) rest ∙ ap (λ r. eight (length ws) ++ r) (s .0) ∙ ap (λ n. eight n ++ g .1) (s .1 .0) ∙ g .2,
+      (ap (in-range 1 16) (s .1 .0) ∙ g .5, s .1 .1),
+    )
 
 -- WHERE ONE LOOKS
 pub sound-byte : Sound (λ b. b ∷ []) (λ b. b < 256) read-byte
@@ -284,8 +285,8 @@ reads-some (near n a b) depth left rest fit l d =
     let e = and-parts (in-range 1 64 n) (a-word a && a-word b) fit in
     let e₁ = and-parts (a-word a) (a-word b) (e .1) in
     then-on (whole left) (then-on _ (ap (read-within 1 64) (append-assoc (eight n ++ with-length a) (with-length b) rest ∙ append-assoc (eight n) (with-length a) (with-length b ++ rest))
-            ∙ reads-within 1 64 n (with-length a ++ (with-length b ++ rest)) (lit< tt) (e .0))
-        ∙ then-on _ (reads-word a (with-length b ++ rest) (e₁ .0)) ∙ then-on _ (reads-word b rest (e₁ .1)))
+    ∙ reads-within 1 64 n (with-length a ++ (with-length b ++ rest)) (lit< tt) (e .0))
+    ∙ then-on _ (reads-word a (with-length b ++ rest) (e₁ .0)) ∙ then-on _ (reads-word b rest (e₁ .1)))
     ∙ ap (λ k. whole k (near n a b) rest) (omega arith)
 reads-some (both q r) depth left rest fit l d = reads-two both q r (reads-any q (reads-some q)) (reads-any r (reads-some r)) depth left rest fit l d
 reads-some (either q r) depth left rest fit l d = reads-two either q r (reads-any q (reads-some q)) (reads-any r (reads-some r)) depth left rest fit l d
@@ -322,10 +323,11 @@ stands-near bs q rest ok h =
     let g = step eight _ (read-within 1 64) (sound-within 1 64) _ bs q rest ok h in
     let k = step with-length _ read-word sound-word _ (g .1) q rest (g .4) (g .6) in
     let m = step with-length _ read-word sound-word _ (k .1) q rest (k .4) (k .6) in
-    got-same (Stands-single 4 bs) (m .6)
-    (ap (λ r. 4 ∷ r) (append-assoc (eight (g .0) ++ with-length (k .0)) (with-length (m .0)) (m .1) ∙ append-assoc (eight (g .0)) (with-length (k .0)) (with-length (m .0) ++ m .1)
-        ∙ ap (λ r. eight (g .0) ++ (with-length (k .0) ++ r)) (m .2) ∙ ap (λ r. eight (g .0) ++ r) (k .2) ∙ g .2),
-        (and-from _ _ (g .5) (and-from _ _ (k .5) (m .5)), refl))
+    got-same (Stands-single 4 bs) (m .6) (
+      ap (λ r. 4 ∷ r) (append-assoc (eight (g .0) ++ with-length (k .0)) (with-length (m .0)) (m .1) ∙ append-assoc (eight (g .0)) (with-length (k .0)) (with-length (m .0) ++ m .1)
+          ∙ ap (λ r. eight (g .0) ++ (with-length (k .0) ++ r)) (m .2) ∙ ap (λ r. eight (g .0) ++ r) (k .2) ∙ g .2),
+      (and-from _ _ (g .5) (and-from _ _ (k .5) (m .5)), refl),
+    )
 
 sound-single : (kind : ℕ) (bs : List ℕ) (q : Query) (rest : List ℕ) → all-bytes bs ≡ true → read-single kind bs ≡ got q rest → Stands-single kind bs q rest
 unfolding read-single query-spelled query-fits size
@@ -333,9 +335,9 @@ sound-single kind bs q rest ok h =
     let at : (k : ℕ) → kind ≡ k → Stands-single k bs q rest → Stands-single kind bs q rest = λ k e s. subst (λ (x : ℕ). Stands-single x bs q rest) (sym e) s in
     choose kind 1 _ _ q rest h (λ e i. at 1 e (stands-sought 1 with-length _ read-word sound-word word (λ f w t u. (refl, (and-from _ _ t u, refl))) bs q rest ok i))
     (λ h₁. choose kind 2 _ _ q rest h₁
-        (λ e i. at 2 e (stands-sought 2 phrase-spelled _ read-phrase sound-phrase phrase (λ f w t u. (refl, (and-from _ _ (and-from _ _ t (u .0)) (u .1), refl))) bs q rest ok i))
-        (λ h₂. choose kind 3 _ _ q rest h₂ (λ e i. at 3 e (stands-sought 3 with-length _ read-word sound-word begins (λ f w t u. (refl, (and-from _ _ t u, refl))) bs q rest ok i))
-            (λ h₃. choose kind 4 _ nothing q rest h₃ (λ e i. at 4 e (stands-near bs q rest ok i)) (λ h₄. let z : _≡_ {A = ℕ} 0 1 = cc in absurd (omega arith)))))
+    (λ e i. at 2 e (stands-sought 2 phrase-spelled _ read-phrase sound-phrase phrase (λ f w t u. (refl, (and-from _ _ (and-from _ _ t (u .0)) (u .1), refl))) bs q rest ok i))
+    (λ h₂. choose kind 3 _ _ q rest h₂ (λ e i. at 3 e (stands-sought 3 with-length _ read-word sound-word begins (λ f w t u. (refl, (and-from _ _ t u, refl))) bs q rest ok i))
+    (λ h₃. choose kind 4 _ nothing q rest h₃ (λ e i. at 4 e (stands-near bs q rest ok i)) (λ h₄. let z : _≡_ {A = ℕ} 0 1 = cc in absurd (omega arith)))))
 
 abbrev Stands : ℕ → ℕ → List ℕ → Asked → List ℕ → Type 0
 Stands kind left bs a rest = (query-spelled (a .query) ++ rest ≡ kind ∷ bs) × Asks (suc left) a
@@ -355,9 +357,10 @@ stands-two kind join is read sound left bs a rest ok h =
     let q = g .0 .query in
     let r = k .0 .query in
     let m = is q r in
-    got-same (Stands kind left bs) (k .6)
-    (ap (λ x. x ++ k .1) (m .0) ∙ ap (λ x. kind ∷ x) (append-assoc (query-spelled q) (query-spelled r) (k .1) ∙ ap (λ x. query-spelled q ++ x) (k .2) ∙ g .2),
-        (m .1 ∙ and-from _ _ (g .5 .0) (k .5 .0), omega (arith, m .2, g .5 .1, k .5 .1)))
+    got-same (Stands kind left bs) (k .6) (
+      ap (λ x. x ++ k .1) (m .0) ∙ ap (λ x. kind ∷ x) (append-assoc (query-spelled q) (query-spelled r) (k .1) ∙ ap (λ x. query-spelled q ++ x) (k .2) ∙ g .2),
+      (m .1 ∙ and-from _ _ (g .5 .0) (k .5 .0), omega (arith, m .2, g .5 .1, k .5 .1)),
+    )
 
 sound-kind : (read : ℕ → List ℕ → Read Asked) → ((left : ℕ) → Sound asked-spelled (Asks left) (read left)) →
     (left kind : ℕ) (bs : List ℕ) (a : Asked) (rest : List ℕ) → all-bytes bs ≡ true → read-kind read left kind bs ≡ got a rest → Stands kind left bs a rest
@@ -366,11 +369,11 @@ sound-kind read sound left kind bs a rest ok h =
     let at : (k : ℕ) → kind ≡ k → Stands k left bs a rest → Stands kind left bs a rest = λ k e s. subst (λ (x : ℕ). Stands x left bs a rest) (sym e) s in
     choose kind 5 _ _ a rest h (λ e i. at 5 e (stands-two 5 both (λ q r. (refl, refl, refl)) read sound left bs a rest ok i))
     (λ h₁. choose kind 6 _ _ a rest h₁ (λ e i. at 6 e (stands-two 6 either (λ q r. (refl, refl, refl)) read sound left bs a rest ok i))
-        (λ h₂. choose kind 7 _ _ a rest h₂ (λ e i. at 7 e (stands-two 7 but (λ q r. (refl, refl, refl)) read sound left bs a rest ok i))
-            (λ h₃.
-                let g = then-got (read-single kind bs) (whole left) a rest h₃ in
-                let s = sound-single kind bs (g .0) (g .1) ok (g .2) in
-                got-same (Stands kind left bs) (g .3) (s .0, (s .1 .0, omega (arith, s .1 .1))))))
+    (λ h₂. choose kind 7 _ _ a rest h₂ (λ e i. at 7 e (stands-two 7 but (λ q r. (refl, refl, refl)) read sound left bs a rest ok i))
+    (λ h₃.
+    let g = then-got (read-single kind bs) (whole left) a rest h₃ in
+    let s = sound-single kind bs (g .0) (g .1) ok (g .2) in
+    got-same (Stands kind left bs) (g .3) (s .0, (s .1 .0, omega (arith, s .1 .1))))))
 
 pub sound-query : (depth left : ℕ) → Sound asked-spelled (Asks left) (read-query depth left)
 unfolding read-query
@@ -509,10 +512,10 @@ pub kind-two : (kind : ℕ) → 5 ≤ kind → kind ≤ 7 → (join : Query → 
 unfolding read-kind
 kind-two kind l h =
     elim (cases-eq kind 5) [
-      inl e ↦ (both, λ read left bs. ap (λ k. read-kind read left k bs) e)
-    | inr n ↦ elim (cases-eq kind 6) [
-        inl e ↦ (either, λ read left bs. ap (λ k. read-kind read left k bs) e)
-      | inr m ↦ let e : kind ≡ 7 = omega arith in (but, λ read left bs. ap (λ k. read-kind read left k bs) e)
+      | inl e ↦ (both, λ read left bs. ap (λ k. read-kind read left k bs) e)
+      | inr n ↦ elim (cases-eq kind 6) [
+        | inl e ↦ (either, λ read left bs. ap (λ k. read-kind read left k bs) e)
+        | inr m ↦ let e : kind ≡ 7 = omega arith in (but, λ read left bs. ap (λ k. read-kind read left k bs) e)
       ]
     ]
 

@@ -85,9 +85,9 @@ read-near bs = then (read-within 1 64 bs) (λ n rest. then (read-word rest) (λ 
 unfoldable pub read-single : ℕ → List ℕ → Read Query
 read-single kind bs =
     pick (eqb kind 1) (then (read-sought read-word bs) (λ s rest. got (word (s .0) (s .1)) rest))
-        (pick (eqb kind 2) (then (read-sought read-phrase bs) (λ s rest. got (phrase (s .0) (s .1)) rest))
-            (pick (eqb kind 3) (then (read-sought read-word bs) (λ s rest. got (begins (s .0) (s .1)) rest))
-                (pick (eqb kind 4) (read-near bs) nothing)))
+    (pick (eqb kind 2) (then (read-sought read-phrase bs) (λ s rest. got (phrase (s .0) (s .1)) rest))
+    (pick (eqb kind 3) (then (read-sought read-word bs) (λ s rest. got (begins (s .0) (s .1)) rest))
+    (pick (eqb kind 4) (read-near bs) nothing)))
 
 -- a question, and how many parts may still follow
 pub record Asked : Type 0 where
@@ -104,7 +104,7 @@ read-two read join left bs = then (read left bs) (λ a rest. then (read (a .left
 unfoldable pub read-kind : (ℕ → List ℕ → Read Asked) → ℕ → ℕ → List ℕ → Read Asked
 read-kind read left kind bs =
     pick (eqb kind 5) (read-two read both left bs)
-        (pick (eqb kind 6) (read-two read either left bs) (pick (eqb kind 7) (read-two read but left bs) (then (read-single kind bs) (whole left))))
+    (pick (eqb kind 6) (read-two read either left bs) (pick (eqb kind 7) (read-two read but left bs) (then (read-single kind bs) (whole left))))
 
 -- a question nested at most so deep, of at most so many parts
 unfoldable pub read-query : (depth left : ℕ) → List ℕ → Read Asked

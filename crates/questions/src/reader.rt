@@ -44,7 +44,11 @@ pub fn read_within(bytes: &[u8], low: u64, high: u64) -> Option<(u64, &[u8])>
     ensures { λ r. ⌜ Cases r (read-within low high (now (bytes .entry)) ≡ nothing) (λ p. read-within low high (now (bytes .entry)) ≡ got (p .0) (p .1 .now)) ⌝ }
 {
     let (n, rest) = read_number(bytes)?;
-    if low <= n && n <= high { Some((n, rest)) } else { None }
+    if low <= n && n <= high {
+        Some((n, rest))
+    } else {
+        None
+    }
 }
 
 // How many bytes, as a number; then so many bytes, and those after them.
@@ -164,7 +168,10 @@ pub fn read_question<'a>(bytes: &'a [u8], depth: u64, left: u64) -> Option<Quest
     let kind = *kind;
     if kind < 5 || kind > 7 {
         let after = read_single(kind, rest)?;
-        return Some(Question { left: left - 1, rest: after });
+        return Some(Question {
+            left: left - 1,
+            rest: after,
+        });
     }
     // Two questions, joined by both, either or but.
     let first = read_question(rest, depth - 1, left - 1)?;

@@ -71,7 +71,7 @@ reads-command (put n t b) rest fit =
     let t₁ = and-parts (a-title t) (all-bytes t) (e₁ .1) .0 in
     let b₁ = and-parts (a-body b) (all-bytes b) (e .1) .0 in
     then-on _ (ap read-number (append-assoc (eight n ++ with-length t) (with-length b) rest ∙ append-assoc (eight n) (with-length t) (with-length b ++ rest))
-        ∙ reads-number n (with-length t ++ (with-length b ++ rest)) (ltb-true n big (e₁ .0)))
+    ∙ reads-number n (with-length t ++ (with-length b ++ rest)) (ltb-true n big (e₁ .0)))
     ∙ then-on _ (reads-tested a-title t (with-length b ++ rest) t₁ (omega (arith, leb-true (length t) 255 t₁)))
     ∙ then-on _ (reads-tested a-body b rest b₁ (omega (arith, ltb-true (length b) 65536 b₁)))
 reads-command (remove n) rest fit = then-on _ (reads-number n rest (ltb-true n big fit))
@@ -84,7 +84,7 @@ reads-command (fetch n) rest fit = then-on _ (reads-number n rest (ltb-true n bi
 reads-command (list-words p k) rest fit =
     let e = and-parts (a-limit k) (a-beginning p) fit in
     then-on _ (ap (λ x. then (read-bytes x) (only a-beginning)) (append-assoc (with-length p) (eight k) rest)
-        ∙ reads-tested a-beginning p (eight k ++ rest) (e .1) (beginning-is p (e .1) .0))
+    ∙ reads-tested a-beginning p (eight k ++ rest) (e .1) (beginning-is p (e .1) .0))
     ∙ then-on _ (reads-within 1 1000 k rest (lit< tt) (e .0))
 reads-command sweep rest fit = refl
 
@@ -109,8 +109,8 @@ pub read-said : (bs : List ℕ) (c : Command) → Said bs c → read-command bs 
 unfolding Said read-command
 read-said bs c h =
     let r : read-command (spelled c) ≡ a-command c =
-        ap (λ t. pick t (all-of-it (then (read-byte (spelled c)) read-kind)) no-command) (spelled-bytes c (h .1))
-        ∙ ap (λ x. all-of-it (then (read-byte x) read-kind)) (sym (append-nil (spelled c))) ∙ ap all-of-it (reads-command c [] (h .1)) in
+    ap (λ t. pick t (all-of-it (then (read-byte (spelled c)) read-kind)) no-command) (spelled-bytes c (h .1))
+    ∙ ap (λ x. all-of-it (then (read-byte x) read-kind)) (sym (append-nil (spelled c))) ∙ ap all-of-it (reads-command c [] (h .1)) in
     ap read-command (sym (h .0)) ∙ r
 
 -- A COMMAND THAT IS READ WAS SPELLED
@@ -127,10 +127,11 @@ stands-put bs c rest ok h =
     let g = step eight _ read-number sound-number _ bs c rest ok h in
     let k = step with-length _ read-title (sound-tested a-title) _ (g .1) c rest (g .4) (g .6) in
     let m = step with-length _ read-body (sound-tested a-body) _ (k .1) c rest (k .4) (k .6) in
-    got-same (Stands 1 bs) (m .6)
-    (ap (λ r. 1 ∷ r) (append-assoc (eight (g .0) ++ with-length (k .0)) (with-length (m .0)) (m .1) ∙ append-assoc (eight (g .0)) (with-length (k .0)) (with-length (m .0) ++ m .1)
-        ∙ ap (λ r. eight (g .0) ++ (with-length (k .0) ++ r)) (m .2) ∙ ap (λ r. eight (g .0) ++ r) (k .2) ∙ g .2),
-        and-from _ _ (and-from _ _ (lt-ltb (g .0) big (g .5)) (and-from _ _ (k .5) (bytes-of (k .0) (k .3)))) (and-from _ _ (m .5) (bytes-of (m .0) (m .3))))
+    got-same (Stands 1 bs) (m .6) (
+      ap (λ r. 1 ∷ r) (append-assoc (eight (g .0) ++ with-length (k .0)) (with-length (m .0)) (m .1) ∙ append-assoc (eight (g .0)) (with-length (k .0)) (with-length (m .0) ++ m .1)
+          ∙ ap (λ r. eight (g .0) ++ (with-length (k .0) ++ r)) (m .2) ∙ ap (λ r. eight (g .0) ++ r) (k .2) ∙ g .2),
+      and-from _ _ (and-from _ _ (lt-ltb (g .0) big (g .5)) (and-from _ _ (k .5) (bytes-of (k .0) (k .3)))) (and-from _ _ (m .5) (bytes-of (m .0) (m .3))),
+    )
 
 -- one part, and then two, of a command
 stands-one : {A : Type 0} (kind : ℕ) (spell : A → List ℕ) (Good : A → Type 0) (read : List ℕ → Read A) → Sound spell Good read → (make : A → Command) →
@@ -159,16 +160,16 @@ sound-kind kind bs c rest ok h =
     let at : (k : ℕ) → kind ≡ k → Stands k bs c rest → Stands kind bs c rest = λ k e s. subst (λ (x : ℕ). Stands x bs c rest) (sym e) s in
     choose kind 1 _ _ c rest h (λ e i. at 1 e (stands-put bs c rest ok i))
     (λ h₁. choose kind 2 _ _ c rest h₁ (λ e i. at 2 e (stands-one 2 eight _ read-number sound-number remove (λ n l. (refl, lt-ltb n big l)) bs c rest ok i))
-        (λ h₂. choose kind 3 _ _ c rest h₂ (λ e i. at 3 e (got-same (Stands 3 bs) i (refl, refl)))
-            (λ h₃. choose kind 4 _ _ c rest h₃
-                (λ e i. at 4 e (stands-two 4 eight _ read-limit (sound-within 1 1000) asked-spelled _ (read-query 31 31) sound-question (λ k a. ask k (a .query)) (λ k a t u. (refl, and-from _ _ t u)) bs c rest ok i))
-                (λ h₄. choose kind 5 _ _ c rest h₄
-                    (λ e i. at 5 e (stands-one 5 asked-spelled _ (read-query 31 31) sound-question (λ a. how-many (a .query)) (λ a t. (refl, t)) bs c rest ok i))
-                    (λ h₅. choose kind 6 _ _ c rest h₅ (λ e i. at 6 e (stands-one 6 eight _ read-number sound-number fetch (λ n l. (refl, lt-ltb n big l)) bs c rest ok i))
-                        (λ h₆. choose kind 7 _ _ c rest h₆
-                            (λ e i. at 7 e (stands-two 7 with-length _ _ (sound-tested a-beginning) eight _ read-limit (sound-within 1 1000) list-words (λ p k t u. (refl, and-from _ _ u t)) bs c rest ok i))
-                            (λ h₇. choose kind 8 _ nothing c rest h₇ (λ e i. at 8 e (got-same (Stands 8 bs) i (refl, refl)))
-                                (λ h₈. let z : _≡_ {A = ℕ} 0 1 = cc in absurd (omega arith)))))))))
+    (λ h₂. choose kind 3 _ _ c rest h₂ (λ e i. at 3 e (got-same (Stands 3 bs) i (refl, refl)))
+    (λ h₃. choose kind 4 _ _ c rest h₃
+    (λ e i. at 4 e (stands-two 4 eight _ read-limit (sound-within 1 1000) asked-spelled _ (read-query 31 31) sound-question (λ k a. ask k (a .query)) (λ k a t u. (refl, and-from _ _ t u)) bs c rest ok i))
+    (λ h₄. choose kind 5 _ _ c rest h₄
+    (λ e i. at 5 e (stands-one 5 asked-spelled _ (read-query 31 31) sound-question (λ a. how-many (a .query)) (λ a t. (refl, t)) bs c rest ok i))
+    (λ h₅. choose kind 6 _ _ c rest h₅ (λ e i. at 6 e (stands-one 6 eight _ read-number sound-number fetch (λ n l. (refl, lt-ltb n big l)) bs c rest ok i))
+    (λ h₆. choose kind 7 _ _ c rest h₆
+    (λ e i. at 7 e (stands-two 7 with-length _ _ (sound-tested a-beginning) eight _ read-limit (sound-within 1 1000) list-words (λ p k t u. (refl, and-from _ _ u t)) bs c rest ok i))
+    (λ h₇. choose kind 8 _ nothing c rest h₇ (λ e i. at 8 e (got-same (Stands 8 bs) i (refl, refl)))
+    (λ h₈. let z : _≡_ {A = ℕ} 0 1 = cc in absurd (omega arith)))))))))
 
 sound-command : Sound spelled (λ c. fits c ≡ true) (λ bs. then (read-byte bs) read-kind)
 sound-command bs c rest ok h =

@@ -30,14 +30,14 @@ read-beginning bs = then (read-bytes bs) (only (λ p. or (none-of p) (a-word p))
 unfoldable pub read-kind : ℕ → List ℕ → Read Command
 read-kind kind bs =
     pick (eqb kind 1)
-        (then (read-number bs) (λ n rest. then (read-title rest) (λ t rest₁. then (read-body rest₁) (λ b rest₂. got (put n t b) rest₂))))
-        (pick (eqb kind 2) (then (read-number bs) (λ n rest. got (remove n) rest))
-            (pick (eqb kind 3) (got note bs)
-                (pick (eqb kind 4) (then (read-limit bs) (λ k rest. then (read-query 31 31 rest) (λ a rest₁. got (ask k (a .query)) rest₁)))
-                    (pick (eqb kind 5) (then (read-query 31 31 bs) (λ a rest. got (how-many (a .query)) rest))
-                        (pick (eqb kind 6) (then (read-number bs) (λ n rest. got (fetch n) rest))
-                            (pick (eqb kind 7) (then (read-beginning bs) (λ p rest. then (read-limit rest) (λ k rest₁. got (list-words p k) rest₁)))
-                                (pick (eqb kind 8) (got sweep bs) nothing)))))))
+    (then (read-number bs) (λ n rest. then (read-title rest) (λ t rest₁. then (read-body rest₁) (λ b rest₂. got (put n t b) rest₂))))
+    (pick (eqb kind 2) (then (read-number bs) (λ n rest. got (remove n) rest))
+    (pick (eqb kind 3) (got note bs)
+    (pick (eqb kind 4) (then (read-limit bs) (λ k rest. then (read-query 31 31 rest) (λ a rest₁. got (ask k (a .query)) rest₁)))
+    (pick (eqb kind 5) (then (read-query 31 31 bs) (λ a rest. got (how-many (a .query)) rest))
+    (pick (eqb kind 6) (then (read-number bs) (λ n rest. got (fetch n) rest))
+    (pick (eqb kind 7) (then (read-beginning bs) (λ p rest. then (read-limit rest) (λ k rest₁. got (list-words p k) rest₁)))
+    (pick (eqb kind 8) (got sweep bs) nothing)))))))
 
 -- nothing may be left over
 abbrev pub all-of-it : Read Command → Reading

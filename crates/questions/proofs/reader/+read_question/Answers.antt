@@ -38,9 +38,11 @@ returns-then-kind-lt5 t c =
     let kind = c .in-Continue-kind .kind .now in
     let rest = c .in-Continue-kind .rest .now in
     let e = c .in-Continue-kind .ensures tt .cases .0 in
-    let s = c .in-Continue-after .ensures tt in
-    (s .0, query-at (c .args .depth) (c .args .left) (c .args .bytes .now) kind rest (omega arith) (omega arith) e
-        ∙ kind-single kind (outside kind (c .then-kind-lt5 .either)) (read-query (c .args .depth - 1)) (c .args .left - 1) rest ∙ then-on (whole (c .args .left - 1)) (s .1))
+    let s = c .in-Continue-after .ensures tt in (
+      s .0,
+      query-at (c .args .depth) (c .args .left) (c .args .bytes .now) kind rest (omega arith) (omega arith) e
+          ∙ kind-single kind (outside kind (c .then-kind-lt5 .either)) (read-query (c .args .depth - 1)) (c .args .left - 1) rest ∙ then-on (whole (c .args .left - 1)) (s .1),
+    )
 
 pub returns-in-Break-first : need.returns-in-Break-first
 returns-in-Break-first t c =

@@ -12,7 +12,7 @@ use Rattle.questions.proofs.reader.is_word.Needs as need
 pub returns-then-not-in-question : need.returns-then-not-in-question
 returns-then-not-in-question c =
     sym (and-right _ _ (sym (c .loop-byte .inv) ∙ at-drop-more (every small-letter) (c .args .bytes .now) (c .loop-byte .byte-index) 0 (c .loop-byte-test .taken)
-        ∙ and-left _ _ (sym (c .if-not-in-question .ensures tt))))
+    ∙ and-left _ _ (sym (c .if-not-in-question .ensures tt))))
 
 pub loop-byte-again : need.loop-byte-again
 loop-byte-again c =
@@ -25,4 +25,4 @@ pub returns : need.returns
 returns c =
     let bs = c .args .bytes .now in
     sym (and-from _ _ (and-from _ _ (le-leb 1 (length bs) (c .if-bytes-lt1 .left)) (le-leb (length bs) 64 (c .if-bytes-gt64 .left)))
-        (sym (c .loop-byte .inv) ∙ at-drop-all (every small-letter) bs (c .loop-byte .byte-index) (c .loop-byte-test .left)))
+    (sym (c .loop-byte .inv) ∙ at-drop-all (every small-letter) bs (c .loop-byte .byte-index) (c .loop-byte-test .left)))
