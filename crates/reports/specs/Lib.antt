@@ -8,3 +8,4 @@ pub mod Entry
 pub mod Stepping
 pub mod Promise
 pub mod Examples
+pub mod Request
