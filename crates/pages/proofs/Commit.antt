@@ -1,28 +1,26 @@
 -- A commit is atomic. Assumes nothing.
 use mathlib.Core.Path.{_≡_, refl, sym, ap, subst, _∙_}
-use mathlib.Core.Bool.{Bool, true, false, not}
-use mathlib.Core.List.{List, [], _∷_, _++_}
+use mathlib.Core.Bool.{true, false, not}
+use mathlib.Core.List.{List, _∷_, _++_}
 use mathlib.Core.Logic.{_⊎_, inl, inr, ⊎-elim}
 use Prim.Native.Nat.{ℕ, zero, suc, _+_, _-_, _≤_, _<_}
 use native.Mathlib.Omega.{arith}
 use borrow.Author.Tests.{lt-ltb, le-ltb, ltb-true, eqb-false, not-true}
 use lib.Dec.{eqb, ltb}
-use lib.ListN.{length, take, drop}
-use Rattle.std.specs.shelf.Lists.{All}
+use lib.ListN.{length, take}
 use Rattle.std.specs.declared.option.Option.{Option}
 use Rattle.std.specs.declared.option.Option.the-variants.{Some, None}
 use Rattle.std.proofs.shelf.Elements.{all-weaker, all-append}
-use Rattle.std.proofs.shelf.Tests.{cases-lt}
 use Rattle.pages.specs.declared.roots.Head.{Head}
 use Rattle.pages.specs.declared.roots.Standing.{Standing}
 use Rattle.pages.specs.Lists.{pick, zeros}
-use Rattle.pages.specs.Device.{Page, Write, Device, page-at, all-written, flushed, half, left, stopped, blank}
+use Rattle.pages.specs.Device.{Page, Write, page-at, all-written, half, left, blank}
 use Rattle.pages.specs.Bytes.{from-eight}
 use Rattle.pages.specs.Places.{number-at}
 use Rattle.pages.specs.Head.{head-page, fits-eights, read-head, chosen, standing, empty-head}
 use Rattle.pages.specs.Commit.{Stands, past-heads, spares, head-write, Atomic, Commit-atomic}
 use Rattle.pages.proofs.Folds.{all-from-every}
-use Rattle.pages.proofs.Device.{Elsewhere, written-elsewhere, written-last, written-append, length-written, length-left, left-elsewhere, left-once, length-blank, page-at-blank}
+use Rattle.pages.proofs.Device.{Elsewhere, written-elsewhere, written-last, length-written, length-left, left-elsewhere, left-once, length-blank, page-at-blank}
 use Rattle.pages.proofs.Heads.{read-written, read-torn, read-blank, torn-second, second-sequence}
 
 -- WHICH COUNTS. The head that counts is that of its page, which is one of two

@@ -1,21 +1,21 @@
 -- Laws of heads. Assumes nothing.
-use mathlib.Core.Path.{_≡_, refl, sym, ap, subst, _∙_}
-use mathlib.Core.Bool.{Bool, true, false, _&&_}
+use mathlib.Core.Path.{_≡_, refl, sym, ap, _∙_}
+use mathlib.Core.Bool.{Bool, true, false}
 use mathlib.Core.List.{List, [], _∷_, _++_, append-assoc, append-nil}
-use mathlib.Core.Logic.{_⊎_, inl, inr, ⊎-elim}
+use mathlib.Core.Logic.{⊎-elim}
 use Prim.Native.Nat.{ℕ, zero, suc, _+_, _*_, _≤_, _<_}
 use native.Mathlib.Nat.{not-suc-le-zero}
 use native.Mathlib.Omega.{arith}
 use borrow.Author.Needs.{needs}
 use borrow.Author.Tests.{eq-eqb, ne-eqb, lt-ltb, ltb-true}
 use lib.Dec.{eqb, ltb, lit<, lit≤}
-use lib.ListN.{length, take, drop, getD, replicate, length-append, length-take, length-drop}
+use lib.ListN.{length, take, drop, getD, replicate, length-append}
 use Rattle.std.specs.declared.option.Option.the-variants.{Some, None}
 use Rattle.std.proofs.shelf.Tests.{and-from, and-right, cases-bool, cases-eq}
 use Rattle.std.specs.Orderings.{Decides}
 use Rattle.std.proofs.shelf.Lists.{take-at, drop-at, drop-drop, take-take}
 use Rattle.std.proofs.shelf.Equals.{compares-decides}
-use Rattle.pages.specs.Lists.{pick, every, same, zeros}
+use Rattle.pages.specs.Lists.{every, same, zeros}
 use Rattle.pages.specs.Bytes.{eight, all-bytes, from-eight}
 use Rattle.pages.specs.Device.{Page, half, a-page}
 use Rattle.pages.specs.Places.{number-at, written, in-eights}

@@ -1,15 +1,14 @@
 -- Laws of bytes written at a place. Assumes nothing.
-use mathlib.Core.Path.{_≡_, refl, sym, ap, subst, _∙_}
+use mathlib.Core.Path.{_≡_, refl, sym, ap, _∙_}
 use mathlib.Core.Bool.{Bool, true}
-use mathlib.Core.List.{List, [], _∷_, _++_, append-assoc, append-nil}
+use mathlib.Core.List.{List, [], _∷_, _++_, append-assoc}
 use Prim.Native.Nat.{ℕ, zero, suc, _+_, _*_, _/_, _%_, _^_, _≤_, _<_}
 use native.Mathlib.Omega.{arith}
 use native.Mathlib.Nat.{pow-succ', div-div-eq-div-mul, mul-le-mul-right, mul-assoc, pow-le-pow-right}
-use native.Mathlib.Numerals.{add-one}
 use lib.Dec.{ltb}
 use borrow.Author.Tests.{ltb-true}
 use lib.ListN.{length, take, drop, getD, set, length-append, length-take, length-drop}
-use Rattle.std.proofs.shelf.Lists.{take-append-drop, take-at, drop-at, drop-drop, take-take, set-at, take-more, drop-more, length-take-le}
+use Rattle.std.proofs.shelf.Lists.{take-append-drop, take-at, drop-at, drop-drop, set-at, take-more, length-take-le}
 use Rattle.std.proofs.shelf.Elements.{all-take, all-drop}
 use Rattle.pages.specs.Bytes.{in-bytes, eight, all-bytes, from-eight}
 use Rattle.pages.specs.Places.{number-at, written, in-eights}

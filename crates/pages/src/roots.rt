@@ -1,11 +1,11 @@
 // The head of a device: which root stands. Pages 0 and 1 are head pages, which are written in turn, each with two copies of its head, so that a write
 // that a stop tore is seen and the other head counts.
 ghost use mathlib.Core.Path.{_≡_};
+ghost use mathlib.Core.List.{[], _∷_};
 ghost use Prim.Native.Nat.{_+_, _≤_};
 ghost use lib.Dec.{eqb};
 ghost use lib.ListN.{length};
-ghost use Rattle.pages.specs.Lists.{pick, zeros};
-ghost use mathlib.Core.List.{[], _∷_};
+ghost use Rattle.pages.specs.Lists.{pick};
 ghost use Rattle.pages.specs.Places.{written, in-eights};
 ghost use Rattle.pages.specs.Head.{segment-numbers, root-numbers, head-numbers, head-page, segment-at, root-at, head-at, copies-agree, read-head, chosen, Heads-kept};
 ghost use Rattle.pages.specs.Commit.{Commit-atomic};
@@ -123,6 +123,7 @@ fn read_copy(page: &[u8]) -> Head
     }
 }
 
+// The root whose numbers stand at a place.
 fn read_root(page: &[u8], at: usize) -> Root
     requires { ⌜ at + 144 ≤ length (now page) ⌝ }
     ensures { λ r. ⌜ r ≡ root-at (now (page .entry)) at ⌝ }
@@ -137,6 +138,7 @@ fn read_root(page: &[u8], at: usize) -> Root
     }
 }
 
+// The segment whose numbers stand at a place.
 fn read_segment(page: &[u8], at: usize) -> Segment
     requires { ⌜ at + 32 ≤ length (now page) ⌝ }
     ensures { λ r. ⌜ r ≡ segment-at (now (page .entry)) at ⌝ }
@@ -149,6 +151,7 @@ fn read_segment(page: &[u8], at: usize) -> Segment
     }
 }
 
+// Writes the numbers of a head at a place, and leaves the other bytes.
 fn put_copy(page: &mut [u8], at: usize, head: Head)
     requires { ⌜ at + 168 ≤ length (now page) ⌝ }
     ensures { λ _. ⌜ now (page .exit) ≡ written (now (page .entry)) at (in-eights (head-numbers head)) ⌝ }
@@ -159,6 +162,7 @@ fn put_copy(page: &mut [u8], at: usize, head: Head)
     put_root(page, at + 24, head.root);
 }
 
+// Writes the numbers of a root at a place, and leaves the other bytes.
 fn put_root(page: &mut [u8], at: usize, root: Root)
     requires { ⌜ at + 144 ≤ length (now page) ⌝ }
     ensures { λ _. ⌜ now (page .exit) ≡ written (now (page .entry)) at (in-eights (root-numbers root)) ⌝ }
@@ -171,6 +175,7 @@ fn put_root(page: &mut [u8], at: usize, root: Root)
     put_segment(page, at + 112, root.fourth);
 }
 
+// Writes the numbers of a segment at a place, and leaves the other bytes.
 fn put_segment(page: &mut [u8], at: usize, segment: Segment)
     requires { ⌜ at + 32 ≤ length (now page) ⌝ }
     ensures { λ _. ⌜ now (page .exit) ≡ written (now (page .entry)) at (in-eights (segment-numbers segment)) ⌝ }
@@ -181,7 +186,7 @@ fn put_segment(page: &mut [u8], at: usize, segment: Segment)
     put(page, at + 24, segment.docs);
 }
 
-// A number where its eight bytes fit.
+// Writes a number at a place where its eight bytes fit.
 fn put(page: &mut [u8], at: usize, n: u64)
     requires { ⌜ at + 8 ≤ length (now page) ⌝ }
     ensures { λ _. ⌜ now (page .exit) ≡ written (now (page .entry)) at (in-eights (n ∷ [])) ⌝ }

@@ -7,6 +7,8 @@ mod starting;
 pub mod theorems;
 
 pub use machine::step;
+pub use reader::Request;
+pub use reader::read_command;
 pub use registers::CELLS;
 
 // What one step of the engine does, and what the world outside is to do about it.
