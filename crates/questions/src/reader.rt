@@ -11,6 +11,9 @@ ghost use Rattle.questions.specs.Spelling.{a-word};
 ghost use Rattle.questions.specs.Reading.{nothing, got, whole, Left, small-letter, read-part, read-number, read-within, read-bytes, read-word, read-words, read-phrase, read-field, read-sought, read-near, read-single, read-query};
 use pages::number;
 
+// Of a longer word only so many bytes count, so none is asked for.
+const LONGEST_WORD: usize = 64;
+
 // A question was read: how many parts may still follow, and the bytes after it.
 #[derive(Clone, Copy)]
 pub struct Question<'a> {
@@ -73,7 +76,7 @@ fn in_question(byte: u8) -> bool
 pub fn is_word(bytes: &[u8]) -> bool
     ensures { λ r. ⌜ r ≡ a-word (now (bytes .entry)) ⌝ }
 {
-    if bytes.len() < 1 || bytes.len() > 64 {
+    if bytes.len() < 1 || bytes.len() > LONGEST_WORD {
         return false;
     }
     for byte in bytes {
