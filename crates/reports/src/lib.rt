@@ -1,7 +1,9 @@
 // The engine as a machine: one step at a time, told one thing and doing one act.
+mod events;
 mod machine;
 mod reader;
 mod registers;
+mod starting;
 pub mod theorems;
 
 pub use machine::step;
