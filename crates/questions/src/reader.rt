@@ -1,11 +1,6 @@
 // Reading a question from lent bytes. Nothing is copied: what is read is a part of them, and what comes after it.
 ghost use mathlib.Core.Path.{_≡_};
-ghost use mathlib.Core.Bool.{_&&_, not};
-ghost use mathlib.Core.List.{List};
-ghost use Prim.Native.Nat.{ℕ};
-ghost use lib.Dec.{ltb, leb};
 ghost use Rattle.std.specs.Options.{Cases};
-ghost use Rattle.words.specs.Words.{in-word};
 ghost use Rattle.questions.specs.Query.{Query};
 ghost use Rattle.questions.specs.Spelling.{a-word};
 ghost use Rattle.questions.specs.Reading.{nothing, got, whole, Left, small-letter, read-part, read-number, read-within, read-bytes, read-word, read-words, read-phrase, read-field, read-sought, read-near, read-single, read-query};
