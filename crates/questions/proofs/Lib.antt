@@ -1,0 +1,5 @@
+pub mod Insertion
+pub mod Rows
+mod Halving
+mod Rising
+mod Refusals
