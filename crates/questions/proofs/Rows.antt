@@ -10,7 +10,7 @@ use lib.Dec.{ltb, leb}
 use lib.ListN.{length, getD, take, drop, set, length-append, length-take, length-drop, take-append-drop}
 use lib.Seq.{paste}
 use Rattle.std.specs.Holes.{inserted}
-use Rattle.std.proofs.shelf.Lists.{take-all, drop-all, take-take, take-at, drop-at, drop-drop, drop-more, getD-drop, length-take-le, take-append-le}
+use Rattle.std.proofs.shelf.Lists.{take-all, take-take, take-at, drop-at, drop-drop, drop-more, getD-drop, length-take-le, take-append-le}
 use Rattle.std.proofs.shelf.Parts.{drop-append-drop}
 use Rattle.std.proofs.shelf.Ways.{tells}
 use Rattle.std.proofs.shelf.Tests.{and-parts, and-from, leb-true, le-leb, cases-lt}
@@ -81,6 +81,11 @@ unfolding hits-in
 getD-hits-in zero xs j d l = absurd (omega arith)
 getD-hits-in (suc n) xs zero d l = refl
 getD-hits-in (suc n) xs (suc j) d l = getD-hits-in n (drop 2 xs) j d (omega arith) ∙ hit-further xs j
+
+-- from one hit of a row on
+pub drop-hits-more : (n : ℕ) (xs : List ℕ) (i : ℕ) → i < n → drop i (hits-in n xs) ≡ hit-at xs i ∷ drop (i + 1) (hits-in n xs)
+drop-hits-more n xs i l =
+    drop-more (hits-in n xs) i (hit-at xs 0) (omega (arith, length-hits-in n xs)) ∙ ap (λ (h : Hit). h ∷ drop (i + 1) (hits-in n xs)) (getD-hits-in n xs i (hit-at xs 0) l)
 
 take-inserted : {X : Type 0} (n i : ℕ) (x : X) (xs : List X) → i ≤ n → i ≤ length xs → take (suc n) (inserted xs i x) ≡ take i xs ++ (x ∷ take (n - i) (drop i xs))
 take-inserted n zero x xs h k = rw sub-zero
@@ -180,49 +185,34 @@ module _ (row : List ℕ) (count most : ℕ) (h : Hit) (p : Placed) (room : has-
       (⊎-elim (λ x. inr (omega arith, omega arith)) (λ x. inl (omega arith)) (cases-lt count most))
       ∙ ap (λ (x : ℕ). hits-out (take most (inserted (hits-in count row) (p .at) h)) ++ drop (2 * x) row) (sym e))
 
--- one more of so many, if there is room
-one-more : (count most i kept n : ℕ) → i < count → kept ≡ smaller most (count - (i + 1)) → n ≡ smaller most (suc kept) → (n ≡ smaller most (count - i)) × (2 * kept ≤ 2 * n)
-one-more count most i kept n l k s =
-    let a = smaller-is most (count - (i + 1)) in
-    let b = smaller-is most (suc kept) in
-    (omega (arith, smaller-is most (count - i)), omega arith)
+-- one more, if there is room
+one-more : (all most count n : ℕ) → count ≡ smaller most all → n ≡ smaller most (suc count) → (n ≡ smaller most (suc all)) × (2 * count ≤ 2 * n)
+one-more all most count n k s =
+    let a = smaller-is most all in
+    let b = smaller-is most (suc count) in
+    (omega (arith, smaller-is most (suc all)), omega arith)
 
--- THE BEST SO FAR: of the hits from i on the first so many in order stand in the row, and after them what stood there before
-abbrev pub Kept : (pairs : List ℕ) (count most : ℕ) (out : List ℕ) (i kept : ℕ) (out₁ : List ℕ) → Type 0
-Kept pairs count most out i kept out₁ =
-    (kept ≡ smaller most (count - i)) × (out₁ ≡ hits-out (take most (in-order (drop i (hits-in count pairs)))) ++ drop (2 * kept) out)
+-- THE BEST SO FAR: of these hits the first so many in order stand in the row, and after them what stood there before
+abbrev pub Holds-best : (hs : List Hit) (most : ℕ) (row : List ℕ) (count : ℕ) (row₁ : List ℕ) → Type 0
+Holds-best hs most row count row₁ = (count ≡ smaller most (length hs)) × (row₁ ≡ hits-out (take most (in-order hs)) ++ drop (2 * count) row)
 
-pub kept-none : (pairs : List ℕ) (count most : ℕ) (out : List ℕ) → Kept pairs count most out count 0 out
+pub holds-none : (most : ℕ) (row : List ℕ) → Holds-best [] most row 0 row
 unfolding in-order hits-out
-kept-none pairs count most out =
-    let none : drop count (hits-in count pairs) ≡ [] = drop-all count (hits-in count pairs) (omega (arith, length-hits-in count pairs)) in
-    let few : take most (in-order []) ≡ [] = take-all most [] (omega arith) in
-    (omega (arith, smaller-is most (count - count)), rw (none, few))
+holds-none most row = let none : take most (in-order []) ≡ [] = take-all most [] (omega arith) in (omega (arith, smaller-is most 0), rw none)
 
-pub kept-all : (pairs : List ℕ) (count most : ℕ) (out : List ℕ) (i kept : ℕ) (out₁ : List ℕ) → i ≤ 0 → Kept pairs count most out i kept out₁ →
-    out₁ ≡ hits-out (take most (in-order (hits-in count pairs))) ++ drop (2 * smaller most count) out
-kept-all pairs count most out zero kept out₁ z k =
-    let n : kept ≡ smaller most count = k .0 ∙ ap (smaller most) (sub-zero count) in
-    k .1 ∙ ap (λ (x : ℕ). hits-out (take most (in-order (hits-in count pairs))) ++ drop (2 * x) out) n
-kept-all pairs count most out (suc i) kept out₁ z k = absurd (omega arith)
+pub holds-room : (hs : List Hit) (most : ℕ) (row : List ℕ) (count : ℕ) (row₁ : List ℕ) → Holds-best hs most row count row₁ → 2 * most ≤ length row₁ → has-room row₁ count most ≡ true
+holds-room hs most row count row₁ k le = room-is row₁ count most (omega (arith, k .0, smaller-is most (length hs))) le
 
-pub kept-more : (pairs : List ℕ) (count most : ℕ) (out : List ℕ) (i kept : ℕ) (out₁ : List ℕ) (p : Placed) (out₂ : List ℕ) → i < count →
-    Kept pairs count most out (i + 1) kept out₁ → Inserted out₁ kept most (hit-at pairs i) p out₂ → Kept pairs count most out i (p .count) out₂
-kept-more pairs count most out i kept out₁ p out₂ l k s =
-    let hs : List Hit = hits-in count pairs in
-    let h : Hit = hit-at pairs i in
-    let first : List Hit = take most (in-order (drop (i + 1) hs)) in
-    let n = one-more count most i kept (p .count) l (k .0) (s .held) in
-    let len : length first ≡ kept =
-    length-take most (in-order (drop (i + 1) hs))
-    ∙ ap (min most) (length-in-order (drop (i + 1) hs) ∙ length-drop (i + 1) hs ∙ ap (λ (x : ℕ). x - (i + 1)) (length-hits-in count pairs))
-    ∙ sym (k .0 ∙ smaller-is most (count - (i + 1))) in
-    let here : i < length hs = omega (arith, length-hits-in count pairs) in
-    let same : hits-in kept out₁ ≡ first = ap (hits-in kept) (k .1) ∙ hits-in-out first kept (drop (2 * kept) out) len in
-    let o : in-order (hits-in kept out₁) ≡ hits-in kept out₁ = rw same (first-in-order most (drop (i + 1) hs)) in
-    let e : take most (put-in h (hits-in kept out₁)) ≡ take most (in-order (drop i hs)) =
-    ap (λ (x : List Hit). take most (put-in h x)) same ∙ first-with-one-more most h (drop (i + 1) hs)
-    ∙ ap (λ (x : List Hit). take most (in-order x)) (sym (drop-more hs i h here ∙ ap (λ (x : Hit). x ∷ drop (i + 1) hs) (getD-hits-in count pairs i h l))) in
-    let d : drop (2 * p .count) out₁ ≡ drop (2 * p .count) out =
-    ap (drop (2 * p .count)) (k .1) ∙ drop-append-drop (2 * kept) out (hits-out first) (2 * p .count) (n .1) (length-hits-out first ∙ ap (λ (x : ℕ). 2 * x) len) in
+-- with one more put in, it holds the best of them and that one
+pub holds-one-more : (hs : List Hit) (most : ℕ) (row : List ℕ) (count : ℕ) (row₁ : List ℕ) (h : Hit) (p : Placed) (row₂ : List ℕ) →
+    Holds-best hs most row count row₁ → Inserted row₁ count most h p row₂ → Holds-best (h ∷ hs) most row (p .count) row₂
+holds-one-more hs most row count row₁ h p row₂ k s =
+    let first : List Hit = take most (in-order hs) in
+    let n = one-more (length hs) most count (p .count) (k .0) (s .held) in
+    let len : length first ≡ count = length-take most (in-order hs) ∙ ap (min most) (length-in-order hs) ∙ sym (k .0 ∙ smaller-is most (length hs)) in
+    let same : hits-in count row₁ ≡ first = ap (hits-in count) (k .1) ∙ hits-in-out first count (drop (2 * count) row) len in
+    let o : in-order (hits-in count row₁) ≡ hits-in count row₁ = rw same (first-in-order most hs) in
+    let e : take most (put-in h (hits-in count row₁)) ≡ take most (in-order (h ∷ hs)) = ap (λ (x : List Hit). take most (put-in h x)) same ∙ first-with-one-more most h hs in
+    let d : drop (2 * p .count) row₁ ≡ drop (2 * p .count) row =
+    ap (drop (2 * p .count)) (k .1) ∙ drop-append-drop (2 * count) row (hits-out first) (2 * p .count) (n .1) (length-hits-out first ∙ ap (λ (x : ℕ). 2 * x) len) in
     (n .0, s .ordered o ∙ rw (e, d))

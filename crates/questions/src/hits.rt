@@ -149,3 +149,35 @@ pub fn put_in(row: &mut [u64], count: u64, most: u64, hit: Hit) -> Option<Placed
     }
     Some(insert(row, count, most, hit))
 }
+
+#[cfg(test)]
+mod tests {
+    use super::*;
+    use std::test::*;
+
+    #[test]
+    fn turned_away_refused_and_put_in() -> Result<(), Fail> {
+        let mut row = [5, 30, 7, 20, 1];
+        let hit = Hit { doc: 9, points: 15 };
+        check(matches!(
+            put_in(&mut row, 2, 2, hit.plus(5)),
+            Some(Placed {
+                count: 2,
+                at: 2,
+                compared: 1
+            })
+        ))?;
+        check(matches!(put_in(&mut row, 3, 2, hit), None))?;
+        check(matches!(put_in(&mut row, 2, 3, hit), None))?;
+        check(row == [5, 30, 7, 20, 1])?;
+        check(matches!(
+            put_in(&mut row, 2, 2, hit.plus(6)),
+            Some(Placed {
+                count: 2,
+                at: 1,
+                compared: 2
+            })
+        ))?;
+        check(row == [5, 30, 9, 21, 1])
+    }
+}
