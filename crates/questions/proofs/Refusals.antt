@@ -1,15 +1,14 @@
 -- Which refusal applies, by what is found of the hits and the lent row, in the order in which it is looked at.
-use mathlib.Core.Path.{_≡_, refl, sym, ap, _∙_}
+use mathlib.Core.Path.{_≡_}
 use mathlib.Core.Bool.{Bool, true, false, _&&_}
 use mathlib.Core.List.{List}
 use mathlib.Core.Logic.{_⊎_}
 use Prim.Native.Nat.{ℕ, _+_, _*_, _≤_, _<_}
 use native.Mathlib.Omega.{arith}
-use lib.Dec.{ltb, leb}
-use lib.ListN.{length, getD, drop}
+use lib.Dec.{leb}
+use lib.ListN.{length, getD}
 use Rattle.std.proofs.shelf.Ways.{tells}
 use Rattle.std.proofs.shelf.Tests.{le-leb, lt-leb}
-use Rattle.pages.specs.Lists.{pick}
 use Rattle.questions.specs.Best.{smaller, all-hits, rising, refusal}
 
 counted : List ℕ → Bool

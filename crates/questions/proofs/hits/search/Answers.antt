@@ -1,10 +1,8 @@
 use mathlib.Core.Path.{_≡_, ap, sym, _∙_}
-use mathlib.Core.Bool.{true, false}
 use Prim.Native.Nat.{_+_, _-_, _/_}
-use native.Mathlib.Omega.{arith}
 use Rattle.questions.specs.Order.{better}
 use Rattle.questions.specs.Rows.{as-hit, hit-at}
-use Rattle.questions.proofs.Halving.{Narrowed, narrowed-down, narrowed-up}
+use Rattle.questions.proofs.Halving.{narrowed-down, narrowed-up}
 use Rattle.questions.proofs.hits.search.Needs as need
 use Rattle.questions.proofs.hits.search.Needs.{then-is-better, else-is-better}
 

@@ -1,15 +1,13 @@
 use mathlib.Core.Path.{_≡_, refl, sym, ap, subst, _∙_}
 use mathlib.Core.List.{List, _++_}
 use mathlib.Core.Logic.{inl, inr, ⊎-elim}
-use Prim.Native.Nat.{ℕ, zero, suc, _+_, _*_, _<_, _≤_, min}
+use Prim.Native.Nat.{ℕ, zero, suc, _+_, _*_, _<_, min}
 use native.Mathlib.Omega.{arith}
-use borrow.Author.Needs.{needs}
 use lib.ListN.{length, getD, take, drop, length-drop}
 use Rattle.std.proofs.shelf.Lists.{take-rest}
 use Rattle.std.proofs.shelf.Tests.{cases-lt}
 use Rattle.questions.specs.Order.{Hit, in-order}
-use Rattle.questions.specs.Best.{smaller, all-hits, hits-in, hits-out, refusal, Best-says}
-use Rattle.questions.specs.declared.Reply.{Reply}
+use Rattle.questions.specs.Best.{smaller, hits-in, hits-out, refusal, Best-says}
 use Rattle.questions.specs.declared.Reply.the-variants.{Best, Refused}
 use Rattle.questions.proofs.Insertion.{length-in-order}
 use Rattle.questions.proofs.Rows.{length-hits-in, smaller-is, take-most}
