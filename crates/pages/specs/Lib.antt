@@ -1,3 +1,5 @@
 pub mod Lists
 pub mod Bytes
 pub mod Device
+pub mod Places
+pub mod Head
