@@ -65,4 +65,4 @@ pub both-fit : (pages : ℕ) (asked coming : List Doc) → 8 ≤ pages → added
 both-fit pages asked coming some h = omega (arith, many-6 asked, many-6 coming)
 
 pub room : Room-suffices
-room = record { rows = row-bytes-few; one = λ d. omega (arith, many-8 d []); many = many-8; closer = many-6; both = both-fit }
+room = record { rows = row-bytes-few; one = λ d. omega (arith, row-bytes-few d); many = many-8; closer = many-6; both = both-fit }

@@ -25,8 +25,8 @@ segment-pages (d ∷ ds) = added-up row-bytes (d ∷ ds) / 431 + 1 + added-up pa
 
 pub record Room-suffices : Type 0 where
   pub rows : (d : Doc) → row-bytes d ≤ 16 + 4 * (text-length d + 2)
-  -- one document, and documents: less than eight times their weight, with one page to spare
-  pub one : (d : Doc) → row-bytes d / 431 + pages-of d + 1 + 1 ≤ 8 * doc-weight d / 512
+  -- one document, and documents: less than eight times their weight, with a page or two to spare
+  pub one : (d : Doc) → row-bytes d / 431 + pages-of d + 1 + 2 ≤ 8 * doc-weight d / 512
   pub many : (d : Doc) (ds : List Doc) → segment-pages (d ∷ ds) + 1 ≤ 8 * added-up doc-weight (d ∷ ds) / 512
   -- six times their weight does, too
   pub closer : (ds : List Doc) → segment-pages ds ≤ 6 * added-up doc-weight ds / 512
