@@ -1,6 +1,10 @@
+pub mod Examples
 pub mod Logic
 pub mod Moves
+pub mod Names
+pub mod Promises
 pub mod Reading
 pub mod Steady
 pub mod Stepping
+pub mod Turns
 pub mod Whole

@@ -10,7 +10,8 @@ use lib.ListN.{length, drop}
 use borrow.Author.Tests.{ltb-true, lt-ltb, le-leb, lt-leb, eq-eqb, ne-eqb}
 use Rattle.std.proofs.str.Laws.{order}
 use Rattle.pages.specs.Lists.{pick, every, zeros}
-use Rattle.pages.proofs.Lists.{length-zeros, zeros-zero}
+use Rattle.pages.proofs.Device.{length-zeros}
+use Rattle.pages.proofs.Lists.{zeros-zero}
 use Rattle.pages.proofs.Bytes.{and-true}
 use Rattle.reports.specs.Run.{Event, on, said, page, next, Act, Step, all-small, Steady}
 use Rattle.reports.specs.Reading.{Reading, no-command, a-command, read-command}

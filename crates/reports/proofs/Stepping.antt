@@ -8,7 +8,7 @@ use native.Mathlib.Omega.{arith}
 use lib.Dec.{eqb, leb}
 use lib.ListN.{length, set, drop}
 use borrow.Author.Tests.{eq-eqb, ne-eqb, le-leb, lt-leb}
-use Rattle.pages.proofs.Lists.{length-zeros}
+use Rattle.pages.proofs.Device.{length-zeros}
 use Rattle.reports.specs.Run.{Event, Step}
 use Rattle.reports.specs.Moves.{Moved, goes, acts, after-move, moves}
 use Rattle.reports.specs.Machine.{St, move, store, load, load-registers, phase-number, told, most-moves, cells, after-event, own, own-step}

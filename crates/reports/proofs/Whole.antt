@@ -8,7 +8,7 @@ use native.Mathlib.Omega.{arith}
 use lib.ListN.{length}
 use Rattle.pages.specs.Lists.{zeros}
 use Rattle.pages.specs.Device.{Device}
-use Rattle.pages.proofs.Lists.{length-zeros}
+use Rattle.pages.proofs.Device.{length-zeros}
 use Rattle.reports.specs.Command.{Command, none}
 use Rattle.reports.specs.Reading.{Reading, no-command, a-command, read-command}
 use Rattle.reports.specs.Plain.{Plain, after-stop}

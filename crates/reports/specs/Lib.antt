@@ -7,3 +7,4 @@ pub mod Machine
 pub mod Entry
 pub mod Stepping
 pub mod Promise
+pub mod Examples

@@ -1,0 +1,5 @@
+use Rattle.reports.proofs.Promises.{sets}
+use Rattle.reports.proofs.theorems.sets.Needs as need
+
+pub returns : need.returns
+returns c = sets
