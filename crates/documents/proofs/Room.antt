@@ -7,15 +7,12 @@ use native.Mathlib.Omega.{arith}
 use native.Mathlib.Nat.{mul-zero, mul-add, mul-suc}
 use lib.ListN.{length}
 use Rattle.pages.specs.Lists.{added-up}
+use Rattle.pages.proofs.Folds.{added-up-append}
 use Rattle.words.specs.Words.{words}
 use Rattle.words.proofs.Laws.{words-fit, words-few}
 use Rattle.documents.specs.Document.{Doc, all-words}
 use Rattle.documents.specs.Pages.{pages-of}
 use Rattle.documents.specs.Room.{text-length, row-bytes, doc-weight, segment-pages, Room-suffices}
-
-pub added-up-append : {A : Type 0} (f : A → ℕ) (xs ys : List A) → added-up f (xs ++ ys) ≡ added-up f xs + added-up f ys
-added-up-append f [] ys = omega arith
-added-up-append f (x ∷ xs) ys = omega (arith, added-up-append f xs ys)
 
 -- the rows of some words, by how many words there are and by what they and a byte after each take
 rows-of-words : (ws : List (List ℕ)) → added-up (λ w. 7 + length w) ws ≡ 6 * length ws + added-up (λ w. length w + 1) ws

@@ -21,7 +21,7 @@ use Rattle.documents.specs.declared.layout.Header.{Header}
 abbrev pub page-count : ℕ → ℕ → ℕ
 page-count t b = (14 + t + b + 503) / 504
 
-abbrev pub header-bytes : Header → List ℕ
+unfoldable pub header-bytes : Header → List ℕ
 header-bytes h = in-bytes 8 (h .name) [] ++ (in-bytes 1 (h .«title_len») [] ++ (in-bytes 2 (h .«body_len») [] ++ in-bytes 3 (h .words) []))
 
 -- the header of a title and a body
@@ -67,11 +67,13 @@ padded d = filled (504 * pages-of d) (content d)
 abbrev pub cells-number : List ℕ → ℕ → ℕ → ℕ
 cells-number p at n = from-eight 0 (take n (drop at p))
 
+-- the header that the first 14 cells spell
+abbrev pub header-at : Page → Header
+header-at p = record { name = cells-number p 0 8; «title_len» = cells-number p 8 1; «body_len» = cells-number p 9 2; words = cells-number p 11 3 }
+
 -- the header at the front of a page; of too few cells, or where one of the first 14 is no byte, none
 unfoldable pub read-header : Page → Option Header
-read-header p =
-    pick (leb 14 (length p) && all-bytes (take 14 p))
-    (Some (record { name = cells-number p 0 8; «title_len» = cells-number p 8 1; «body_len» = cells-number p 9 2; words = cells-number p 11 3 })) None
+read-header p = pick (leb 14 (length p) && all-bytes (take 14 p)) (Some (header-at p)) None
 
 -- the lowest byte of what stands in each cell
 abbrev pub low-bytes : List ℕ → List ℕ

@@ -134,12 +134,7 @@ pub length-each : {A B : Type 0} (f : A → B) (a : List A) → length (each f a
 length-each f [] = refl
 length-each f (x ∷ a) = ap suc (length-each f a)
 
--- zeros
-pub length-zeros : (n : ℕ) → length (zeros n) ≡ n
-unfolding zeros
-length-zeros zero = refl
-length-zeros (suc n) = ap suc (length-zeros n)
-
+-- zeros are zero
 pub zeros-zero : (n : ℕ) → every (λ m. eqb m 0) (zeros n) ≡ true
 unfolding zeros
 zeros-zero zero = refl
