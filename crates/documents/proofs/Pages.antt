@@ -24,7 +24,7 @@ use Rattle.words.specs.Words.{words}
 use Rattle.words.proofs.Laws.{words-few}
 use Rattle.documents.specs.Document.{Doc, long}
 use Rattle.documents.specs.declared.layout.Header.{Header}
-use Rattle.documents.specs.Pages.{page-count, header-bytes, header-for, content-of, filled, page-of, cut, header-of, content, pages-of, doc-page, doc-pages, padded, cells-number, header-at, read-header, Storable, Pages-stand}
+use Rattle.documents.specs.Pages.{page-count, header-bytes, header-for, content-of, filled, page-of, cut, header-of, content, pages-of, doc-page, doc-pages, padded, cells-number, header-at, read-header, low-bytes, can-write, page-from-cells, Storable, Pages-stand}
 
 -- FILLED up with zeros: each place is as before, and past the end 0 as before
 pub getD-zeros : (n i : ℕ) → getD (zeros n) i 0 ≡ 0
@@ -50,11 +50,11 @@ filled-parts m n bs h =
     let w : length (filled (m + n) bs) ≡ m + n = length-filled (m + n) bs h in
     ext-getD 0 _ _ (length-append (filled m (take m bs)) (filled n (drop m bs)) ∙ omega arith)
     (λ i _. ⊎-elim
-      (λ s. getD-append-left (filled m (take m bs)) (filled n (drop m bs)) 0 i (omega arith) ∙ getD-filled m (take m bs) i ∙ getD-take m bs i 0 s ∙ sym (getD-filled (m + n) bs i))
-      (λ g. let e : m + (i - m) ≡ i = omega arith in
-          getD-append-right (filled m (take m bs)) (filled n (drop m bs)) m i 0 l g ∙ getD-filled n (drop m bs) (i - m) ∙ getD-drop m bs (i - m) 0 ∙ ap (λ j. getD bs j 0) e
-          ∙ sym (getD-filled (m + n) bs i))
-      (cases-lt i m))
+    (λ s. getD-append-left (filled m (take m bs)) (filled n (drop m bs)) 0 i (omega arith) ∙ getD-filled m (take m bs) i ∙ getD-take m bs i 0 s ∙ sym (getD-filled (m + n) bs i))
+    (λ g. let e : m + (i - m) ≡ i = omega arith in
+    getD-append-right (filled m (take m bs)) (filled n (drop m bs)) m i 0 l g ∙ getD-filled n (drop m bs) (i - m) ∙ getD-drop m bs (i - m) 0 ∙ ap (λ j. getD bs j 0) e
+    ∙ sym (getD-filled (m + n) bs i))
+    (cases-lt i m))
 
 -- A PAGE of some content from a place on: its length, and its bytes by their places
 module _ (bs : List ℕ) (start : ℕ) where
@@ -268,6 +268,27 @@ body-in d =
     let l : length (h ++ d .title) ≡ 14 + length (d .title) = length-append h (d .title) ∙ ap (λ n. n + length (d .title)) (length-header (header-of d)) in
     ap (λ x. take (length (d .body)) (drop (14 + length (d .title)) x)) e ∙ part-between (h ++ d .title) (d .body) z _ _ l refl
 
+-- CELLS that hold bytes are taken as they are
+pub low-bytes-same : (cs : List ℕ) → all-bytes cs ≡ true → low-bytes cs ≡ cs
+low-bytes-same [] h = refl
+low-bytes-same (c ∷ cs) h =
+    let t = and-parts (ltb c 256) (all-bytes cs) h in
+    let less = ltb-true c 256 (t .0) in
+    let e : c % 256 ≡ c = omega arith in
+    let rest = low-bytes-same cs (t .1) in
+    cc
+
+pub writes : (d : Doc) (q : ℕ) (out : List ℕ) → Storable d → q < pages-of d → 512 ≤ length out → can-write (d .title) (d .body) q out ≡ true
+writes d q out s h l =
+    and-from _ _ (and-from _ _ (le-leb 512 (length out) l) (and-from _ _ (le-leb (length (d .title)) 255 (omega arith)) (le-leb (length (d .body)) 65535 (omega arith))))
+    (lt-ltb q (pages-of d) h)
+
+pub writes-page : (d : Doc) (q : ℕ) → Storable d → page-from-cells (d .name) (d .title) (d .body) (long d) q ≡ doc-page d q
+writes-page d q s =
+    let t = low-bytes-same (d .title) (s .title-bytes) in
+    let b = low-bytes-same (d .body) (s .body-bytes) in
+    λ i. page-of (content-of (d .name) (t i) (b i) (long d)) q
+
 -- READING page by page: a part more of a list is copied behind what is there
 pub written-grows : (r xs : List ℕ) (n k : ℕ) → n + k ≤ length r → n + k ≤ length xs → take n r ≡ take n xs →
     take (n + k) (written r n (take k (drop n xs))) ≡ take (n + k) xs
@@ -301,9 +322,12 @@ pub stand : Pages-stand
 stand =
     record {
       count = λ d. length-cut (pages-of d) (content d);
-      some = λ d. omega arith;
+      some = λ t b. omega arith;
+      few = λ t b h k. omega arith;
       each-page = λ d. page-at-cut (pages-of d) (content d);
       are-pages = λ d s. cut-pages (pages-of d) (content d) (content-is-bytes d s);
+      writes = writes;
+      writes-page = writes-page;
       header = header-read;
       small = header-small;
       whole = λ d. cut-whole (pages-of d) (content d) (content-fits d);

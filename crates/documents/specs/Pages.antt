@@ -6,7 +6,7 @@ use mathlib.Core.Path.{_≡_}
 use mathlib.Core.Bool.{Bool, true, _&&_}
 use mathlib.Core.List.{List, [], _∷_, _++_}
 use Prim.Native.Nat.{ℕ, zero, suc, _+_, _-_, _*_, _/_, _%_, _≤_, _<_}
-use lib.Dec.{leb}
+use lib.Dec.{leb, ltb}
 use lib.ListN.{length, take, drop}
 use Rattle.std.specs.declared.option.Option.{Option}
 use Rattle.std.specs.declared.option.Option.the-variants.{Some, None}
@@ -79,6 +79,14 @@ read-header p = pick (leb 14 (length p) && all-bytes (take 14 p)) (Some (header-
 abbrev pub low-bytes : List ℕ → List ℕ
 low-bytes cs = each (λ c. c % 256) cs
 
+-- whether a page of a title and a body can be written into a row: the row has 512 bytes, the lengths fit the header, and there is such a page
+abbrev pub can-write : List ℕ → List ℕ → ℕ → List ℕ → Bool
+can-write t b q out = (leb 512 (length out) && (leb (length t) 255 && leb (length b) 65535)) && ltb q (page-count (length t) (length b))
+
+-- the page that is written of what stands in cells
+abbrev pub page-from-cells : ℕ → List ℕ → List ℕ → ℕ → ℕ → Page
+page-from-cells n t b w q = page-of (content-of n (low-bytes t) (low-bytes b) w) q
+
 -- what can be kept: its name and lengths fit the header, and title and body are bytes
 pub record Storable (d : Doc) : Type 0 where
   pub name-fits : d .name < 18446744073709551616
@@ -90,9 +98,13 @@ pub record Storable (d : Doc) : Type 0 where
 -- what holds of the pages of every document
 pub record Pages-stand : Type 0 where
   pub count : (d : Doc) → length (doc-pages d) ≡ pages-of d
-  pub some : (d : Doc) → 1 ≤ pages-of d
+  pub some : (t b : ℕ) → 1 ≤ page-count t b
+  pub few : (t b : ℕ) → t < 256 → b < 65536 → page-count t b ≤ 131
   pub each-page : (d : Doc) (q : ℕ) → q < pages-of d → page-at (doc-pages d) q ≡ doc-page d q
   pub are-pages : (d : Doc) → Storable d → every a-page (doc-pages d) ≡ true
+  -- a document that lies in cells is written as it is
+  pub writes : (d : Doc) (q : ℕ) (out : List ℕ) → Storable d → q < pages-of d → 512 ≤ length out → can-write (d .title) (d .body) q out ≡ true
+  pub writes-page : (d : Doc) (q : ℕ) → Storable d → page-from-cells (d .name) (d .title) (d .body) (long d) q ≡ doc-page d q
   pub header : (d : Doc) → Storable d → read-header (doc-page d 0) ≡ Some (header-of d)
   pub small : (p : Page) (h : Header) → read-header p ≡ Some h →
       (h .name < 18446744073709551616) × (h .«title_len» < 256) × (h .«body_len» < 65536) × (h .words < 16777216)

@@ -1,19 +1,20 @@
 // The pages of a document: the header at the front of the first one, and what stands on each. Text is lent in cells of memory, one byte to a cell, and
 // copied to a page as it is written.
 ghost use mathlib.Core.Path.{_≡_};
-ghost use mathlib.Core.Bool.{true, _&&_};
+ghost use mathlib.Core.Bool.{true};
 ghost use mathlib.Core.List.{[], _++_};
-ghost use Prim.Native.Nat.{_+_, _*_, _%_, _≤_, _<_};
-ghost use lib.Dec.{leb, ltb};
+ghost use Prim.Native.Nat.{_+_, _≤_, _<_};
 ghost use lib.ListN.{length, getD, take, drop};
 ghost use Rattle.pages.specs.Lists.{pick};
 ghost use Rattle.pages.specs.Bytes.{in-bytes, all-bytes, from-eight};
 ghost use Rattle.pages.specs.Places.{written};
-ghost use Rattle.documents.specs.Pages.{page-count, header-bytes, content-of, filled, page-of, read-header, low-bytes};
+ghost use Rattle.documents.specs.Pages.{page-count, header-bytes, filled, read-header, low-bytes, can-write, page-from-cells};
 
 // The bytes of a header, of the content on a page, and of a page.
 const HEADER: usize = 14;
+
 const CONTENT: usize = 504;
+
 const PAGE: usize = 512;
 
 // What the front of the first page of a document says: its name, the lengths of title and body, and how many words they have together.
@@ -73,9 +74,16 @@ fn number(cells: &[u64]) -> u64
 
 // Writes page `index` of a document into the first 512 bytes of a row and leaves the others. Of a cell that holds no byte, the lowest byte is taken.
 // Refuses, and leaves the row as it was, if the row is too short, if title or body is too long for a header, or if the document has no such page.
-pub fn write_page(name: u64, title: &[u64], body: &[u64], words: u64, index: u64, out: &mut [u8]) -> bool
-    ensures fits { λ r. ⌜ r ≡ ((leb 512 (length (now (out .entry))) && (leb (length (now (title .entry))) 255 && leb (length (now (body .entry))) 65535)) && ltb index (page-count (length (now (title .entry))) (length (now (body .entry))))) ⌝ }
-    ensures out { λ r. ⌜ now (out .exit) ≡ pick r (written (now (out .entry)) 0 (page-of (content-of name (low-bytes (now (title .entry))) (low-bytes (now (body .entry))) words) index)) (now (out .entry)) ⌝ }
+pub fn write_page(
+    name: u64,
+    title: &[u64],
+    body: &[u64],
+    words: u64,
+    index: u64,
+    out: &mut [u8],
+) -> bool
+    ensures fits { λ r. ⌜ r ≡ can-write (now (title .entry)) (now (body .entry)) index (now (out .entry)) ⌝ }
+    ensures out { λ r. ⌜ now (out .exit) ≡ pick r (written (now (out .entry)) 0 (page-from-cells name (now (title .entry)) (now (body .entry)) words index)) (now (out .entry)) ⌝ }
 {
     if out.len() < PAGE || title.len() > 255 || body.len() > 65_535 {
         return false;
@@ -85,7 +93,12 @@ pub fn write_page(name: u64, title: &[u64], body: &[u64], words: u64, index: u64
     if index >= page_count(title_len, body_len) {
         return false;
     }
-    let header = spell_header(Header { name, title_len, body_len, words });
+    let header = spell_header(Header {
+        name,
+        title_len,
+        body_len,
+        words,
+    });
     fill_page(&header, title, body, index as usize * CONTENT, out);
     true
 }
@@ -96,7 +109,11 @@ fn fill_page(header: &[u8], title: &[u64], body: &[u64], start: usize, out: &mut
     ensures { λ _. ⌜ now (out .exit) ≡ written (now (out .entry)) 0 (filled 512 (take 504 (drop start (now (header .entry) ++ (low-bytes (now (title .entry)) ++ low-bytes (now (body .entry))))))) ⌝ }
 {
     for i in 0..PAGE {
-        out[i] = if i < CONTENT { byte_at(header, title, body, start + i) } else { 0 };
+        out[i] = if i < CONTENT {
+            byte_at(header, title, body, start + i)
+        } else {
+            0
+        };
     }
 }
 
@@ -112,7 +129,11 @@ fn byte_at(header: &[u8], title: &[u64], body: &[u64], at: usize) -> u8
         return (title[in_text] % 256) as u8;
     }
     let in_body = in_text - title.len();
-    if in_body < body.len() { (body[in_body] % 256) as u8 } else { 0 }
+    if in_body < body.len() {
+        (body[in_body] % 256) as u8
+    } else {
+        0
+    }
 }
 
 // The 14 bytes of a header.
@@ -136,5 +157,66 @@ fn put_bytes(out: &mut [u8], at: usize, width: usize, n: u64)
     for i in 0..width {
         out[at + (width - 1 - i)] = (left % 256) as u8;
         left /= 256;
+    }
+}
+
+#[cfg(test)]
+mod tests {
+    use super::*;
+    use std::test::*;
+
+    #[test]
+    fn an_empty_document_has_one_page() -> Result<(), Fail> {
+        let mut row = [9; 513];
+        check(write_page(0x0102, &[], &[], 0, 0, &mut row))?;
+        check_eq(row[6], 1)?;
+        check_eq(row[7], 2)?;
+        check_eq(row[511], 0)?;
+        check_eq(row[512], 9)?;
+        check(!write_page(0x0102, &[], &[], 0, 1, &mut row)).note("there is no second page")?;
+        check(!write_page(0x0102, &[], &[], 0, 0, &mut row[0..511])).note("the row is too short")
+    }
+
+    #[test]
+    fn content_of_504_bytes_is_one_page() -> Result<(), Fail> {
+        check_eq(page_count(0, 490), 1)?;
+        check_eq(page_count(0, 491), 2)?;
+        check_eq(page_count(255, 65_535), 131)?;
+        let body = [65; 490];
+        let mut row = [9; 512];
+        check(write_page(1, &[], &body, 1, 0, &mut row))?;
+        check_eq(row[503], 65)?;
+        check_eq(row[504], 0)
+    }
+
+    #[test]
+    fn the_longest_document_has_131_pages() -> Result<(), Fail> {
+        let title = [65; 255];
+        let body = [66; 65_535];
+        let mut row = [9; 512];
+        check(write_page(1, &title, &body, 2, 130, &mut row))?;
+        check_eq(row[283], 66)?;
+        check_eq(row[284], 0)?;
+        check(!write_page(1, &title, &body, 2, 131, &mut row))
+    }
+
+    #[test]
+    fn what_is_written_is_read() -> Result<(), Fail> {
+        let mut row = [9; 512];
+        let mut page = [256; 512];
+        check_eq(read_header(&page), None).note("no cell holds a byte")?;
+        check(write_page(77, &[321, 66], &[67; 300], 3, 0, &mut row))?;
+        for i in 0..512 {
+            page[i] = row[i] as u64;
+        }
+        check_eq(row[14], 65).note("the lowest byte of 321")?;
+        check_eq(read_header(&page[0..13]), None)?;
+        let header = Header {
+            name: 77,
+            title_len: 2,
+            body_len: 300,
+            words: 3,
+        };
+        check_eq(read_header(&page), Some(header))
     }
 }
