@@ -205,12 +205,12 @@ mod tests {
         let mut row = [9; 512];
         let mut page = [256; 512];
         check_eq(read_header(&page), None).note("no cell holds a byte")?;
+        check_eq(read_header(&[0; 13]), None).note("there are too few cells")?;
         check(write_page(77, &[321, 66], &[67; 300], 3, 0, &mut row))?;
         for i in 0..512 {
             page[i] = row[i] as u64;
         }
         check_eq(row[14], 65).note("the lowest byte of 321")?;
-        check_eq(read_header(&page[0..13]), None)?;
         let header = Header {
             name: 77,
             title_len: 2,
