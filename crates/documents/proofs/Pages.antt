@@ -17,9 +17,11 @@ use Rattle.pages.specs.Lists.{pick, every, each, flat, zeros}
 use Rattle.pages.specs.Bytes.{in-bytes, all-bytes, from-eight}
 use Rattle.pages.specs.Device.{Page, page-at, a-page}
 use Rattle.pages.specs.Places.{written}
-use Rattle.pages.proofs.Bytes.{length-in-bytes, in-bytes-bytes, from-in-bytes, from-eight-less}
+use Rattle.pages.proofs.Bytes.{length-in-bytes, in-bytes-bytes, from-in-bytes}
 use Rattle.pages.proofs.Device.{length-zeros, zeros-bytes}
-use Rattle.pages.proofs.Lists.{every-append, every-take, every-drop}
+use Rattle.pages.proofs.Folds.{every-append}
+use Rattle.pages.proofs.Lists.{every-take, every-drop}
+use Rattle.pages.proofs.Places.{from-eight-below}
 use Rattle.words.specs.Words.{words}
 use Rattle.words.proofs.Laws.{words-few}
 use Rattle.documents.specs.Document.{Doc, long}
@@ -79,13 +81,17 @@ pub page-of-kept : (bs : List ℕ) (q i : ℕ) → 504 ≤ i → getD (page-of b
 unfolding page-of
 page-of-kept bs q = stretch-kept bs (504 * q)
 
+-- bytes after bytes
+pub joined-bytes : (xs ys : List ℕ) → all-bytes xs ≡ true → all-bytes ys ≡ true → all-bytes (xs ++ ys) ≡ true
+joined-bytes xs ys h k = every-append (λ b. ltb b 256) xs ys ∙ and-from _ _ h k
+
 pub a-page-of : (bs : List ℕ) (q : ℕ) → all-bytes bs ≡ true → a-page (page-of bs q) ≡ true
 unfolding page-of
 a-page-of bs q h =
     let byte : ℕ → Bool = λ b. ltb b 256 in
     let front : List ℕ = take 504 (drop (504 * q) bs) in
     let bytes : every byte front ≡ true = every-take byte 504 (drop (504 * q) bs) (every-drop byte (504 * q) bs h) in
-    and-from _ _ (eq-eqb _ 512 (length-page-of bs q)) (every-append byte front (zeros (512 - length front)) bytes (zeros-bytes (512 - length front)))
+    and-from _ _ (eq-eqb _ 512 (length-page-of bs q)) (joined-bytes front (zeros (512 - length front)) bytes (zeros-bytes (512 - length front)))
 
 -- the first 504 bytes of a page, by their places; they are a part of the content with zeros after it
 front-is : (bs : List ℕ) (q : ℕ) (ys : List ℕ) → length ys ≡ 504 → ((i : ℕ) → i < 504 → getD ys i 0 ≡ getD bs (504 * q + i) 0) → take 504 (page-of bs q) ≡ ys
@@ -150,12 +156,11 @@ length-header h = simp (length-append, length-in-bytes)
 pub header-is-bytes : (h : Header) → all-bytes (header-bytes h) ≡ true
 unfolding header-bytes
 header-is-bytes h =
-    let join = every-append (λ b. ltb b 256) in
     let b : (k n : ℕ) → all-bytes (in-bytes k n []) ≡ true = λ k n. in-bytes-bytes k n [] refl in
     let x : List ℕ = in-bytes 3 (h .words) [] in
     let y : List ℕ = in-bytes 2 (h .«body_len») [] in
     let z : List ℕ = in-bytes 1 (h .«title_len») [] in
-    join (in-bytes 8 (h .name) []) (z ++ (y ++ x)) (b 8 (h .name)) (join z (y ++ x) (b 1 (h .«title_len»)) (join y x (b 2 (h .«body_len»)) (b 3 (h .words))))
+    joined-bytes (in-bytes 8 (h .name) []) (z ++ (y ++ x)) (b 8 (h .name)) (joined-bytes z (y ++ x) (b 1 (h .«title_len»)) (joined-bytes y x (b 2 (h .«body_len»)) (b 3 (h .words))))
 
 -- the length of the content, which fits its pages
 pub length-content : (d : Doc) → length (content d) ≡ 14 + length (d .title) + length (d .body)
@@ -166,8 +171,7 @@ content-fits d = omega (arith, length-content d)
 
 pub content-is-bytes : (d : Doc) → Storable d → all-bytes (content d) ≡ true
 content-is-bytes d s =
-    let join = every-append (λ b. ltb b 256) in
-    join (header-bytes (header-of d)) (d .title ++ d .body) (header-is-bytes (header-of d)) (join (d .title) (d .body) (s .title-bytes) (s .body-bytes))
+    joined-bytes (header-bytes (header-of d)) (d .title ++ d .body) (header-is-bytes (header-of d)) (joined-bytes (d .title) (d .body) (s .title-bytes) (s .body-bytes))
 
 -- words of a document that fits are few
 pub long-fits : (d : Doc) → Storable d → long d < 16777216
@@ -214,14 +218,6 @@ header-read d s =
     read-header-is p (omega (arith, length-page-of (content d) 0)) (ap all-bytes front ∙ header-is-bytes h) ∙ cc
 
 -- THE BOUNDS of what is read
-pub from-bytes-bound : (bs : List ℕ) (a k : ℕ) → all-bytes bs ≡ true → a < 256 ^ k → from-eight a bs < 256 ^ (k + length bs)
-unfolding from-eight
-from-bytes-bound [] a k h s = let e : k + 0 ≡ k = omega arith in subst (λ (n : ℕ). a < 256 ^ n) (sym e) s
-from-bytes-bound (b ∷ bs) a k h s =
-    let t = and-parts (ltb b 256) (all-bytes bs) h in
-    let e : k + 1 + length bs ≡ k + suc (length bs) = omega arith in
-    subst (λ (n : ℕ). from-eight (256 * a + b) bs < 256 ^ n) e (from-bytes-bound bs (256 * a + b) (k + 1) (t .1) (from-eight-less k a b s (ltb-true b 256 (t .0))))
-
 pub part-is-bytes : (p : Page) (at n : ℕ) → all-bytes (take 14 p) ≡ true → at + n ≤ 14 → all-bytes (take n (drop at p)) ≡ true
 part-is-bytes p at n b h =
     let byte : ℕ → Bool = λ x. ltb x 256 in
@@ -232,8 +228,8 @@ length-part p at n l h = length-take-le n (drop at p) (simp length-drop (omega a
 
 pub cells-number-bound : (p : Page) (at n : ℕ) → 14 ≤ length p → all-bytes (take 14 p) ≡ true → at + n ≤ 14 → cells-number p at n < 256 ^ n
 cells-number-bound p at n l b h =
-    let e : 0 + length (take n (drop at p)) ≡ n = omega (arith, length-part p at n l h) in
-    subst (λ (k : ℕ). cells-number p at n < 256 ^ k) e (from-bytes-bound (take n (drop at p)) 0 0 (part-is-bytes p at n b h) (omega arith))
+    let e = ap (λ k. 256 ^ k) (length-part p at n l h) in
+    omega (arith, from-eight-below (take n (drop at p)) 0 (part-is-bytes p at n b h))
 
 pub header-small : (p : Page) (h : Header) → read-header p ≡ Some h →
     (h .name < 18446744073709551616) × (h .«title_len» < 256) × (h .«body_len» < 65536) × (h .words < 16777216)

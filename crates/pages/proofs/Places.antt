@@ -1,15 +1,19 @@
 -- Laws of bytes written at a place. Assumes nothing.
-use mathlib.Core.Path.{_≡_, refl, sym, ap, subst, _∙_}
-use mathlib.Core.List.{List, [], _∷_, _++_, append-assoc, append-nil}
+use mathlib.Core.Path.{_≡_, refl, sym, ap, _∙_}
+use mathlib.Core.Bool.{Bool, true}
+use mathlib.Core.List.{List, [], _∷_, _++_, append-assoc}
 use Prim.Native.Nat.{ℕ, zero, suc, _+_, _*_, _/_, _%_, _^_, _≤_, _<_}
 use native.Mathlib.Omega.{arith}
-use native.Mathlib.Nat.{pow-succ', div-div-eq-div-mul}
-use native.Mathlib.Numerals.{add-one}
+use native.Mathlib.Nat.{pow-succ', div-div-eq-div-mul, mul-le-mul-right, mul-assoc, pow-le-pow-right}
+use lib.Dec.{ltb}
+use borrow.Author.Tests.{ltb-true}
 use lib.ListN.{length, take, drop, getD, set, length-append, length-take, length-drop}
-use Rattle.std.proofs.shelf.Lists.{take-append-drop, take-at, drop-at, drop-drop, take-take, set-at, take-more, drop-more, length-take-le}
-use Rattle.pages.specs.Bytes.{in-bytes, eight}
-use Rattle.pages.specs.Places.{written, in-eights}
-use Rattle.pages.proofs.Bytes.{length-eight}
+use Rattle.std.proofs.shelf.Lists.{take-append-drop, take-at, drop-at, drop-drop, set-at, take-more, length-take-le}
+use Rattle.std.proofs.shelf.Elements.{all-take, all-drop}
+use Rattle.pages.specs.Bytes.{in-bytes, eight, all-bytes, from-eight}
+use Rattle.pages.specs.Places.{number-at, written, in-eights}
+use Rattle.pages.proofs.Folds.{all-from-every, every-from-all}
+use Rattle.pages.proofs.Bytes.{and-true, length-eight}
 
 pub length-written : (out : List ℕ) (at : ℕ) (bs : List ℕ) → at + length bs ≤ length out → length (written out at bs) ≡ length out
 unfolding written
@@ -68,3 +72,28 @@ in-eights-append (x ∷ xs) ys = ap (λ z. eight x ++ z) (in-eights-append xs ys
 pub numbers-then : (o₀ : List ℕ) {o₁ o₂ : List ℕ} (at n : ℕ) (xs ys : List ℕ) → at ≤ length o₀ → n ≡ at + 8 * length xs → o₁ ≡ written o₀ at (in-eights xs) → o₂ ≡ written o₁ n (in-eights ys)
     → o₂ ≡ written o₀ at (in-eights (xs ++ ys))
 numbers-then o₀ at n xs ys h e p q = written-then o₀ at n (in-eights xs) (in-eights ys) h (omega (arith, length-in-eights xs)) p q ∙ ap (written o₀ at) (sym (in-eights-append xs ys))
+
+-- what bytes spell over a number, and what eight of them spell
+pub from-eight-below : (bs : List ℕ) (a : ℕ) → all-bytes bs ≡ true → from-eight a bs < (a + 1) * 256 ^ length bs
+unfolding from-eight
+from-eight-below [] a h = omega arith
+from-eight-below (b ∷ bs) a h =
+    let t = and-true (ltb b 256) (all-bytes bs) h in
+    let less : b < 256 = ltb-true b 256 (t .0) in
+    let p : 256 ^ suc (length bs) ≡ 256 * 256 ^ length bs = pow-succ' 256 (length bs) in
+    let i = from-eight-below bs (256 * a + b) (t .1) in
+    let few : 256 * a + b + 1 ≤ (a + 1) * 256 = omega arith in
+    let m = mul-le-mul-right (256 ^ length bs) few in
+    let q : (a + 1) * 256 * 256 ^ length bs ≡ (a + 1) * 256 ^ suc (length bs) = mul-assoc (a + 1) 256 (256 ^ length bs) ∙ ap (λ x. (a + 1) * x) (sym p) in
+    omega arith
+
+pub number-at-fits : (bs : List ℕ) (at : ℕ) → all-bytes bs ≡ true → number-at bs at < 18446744073709551616
+number-at-fits bs at h =
+    let byte : ℕ → Bool = λ b. ltb b 256 in
+    let is : ℕ → Type 0 = λ b. byte b ≡ true in
+    let ys : List ℕ = take 8 (drop at bs) in
+    let a : all-bytes ys ≡ true = every-from-all byte ys (all-take is 8 (drop at bs) (all-drop is at bs (all-from-every byte bs h))) in
+    let l : length ys ≤ 8 = simp length-take (omega arith) in
+    let some : 0 < 256 = omega arith in
+    let p : 256 ^ length ys ≤ 256 ^ 8 = pow-le-pow-right some l in
+    omega (arith, from-eight-below ys 0 a)

@@ -3,3 +3,4 @@ pub mod Bytes
 pub mod Device
 pub mod Places
 pub mod Head
+pub mod Commit

@@ -11,5 +11,7 @@ pub use roots::Root;
 pub use roots::Segment;
 pub use roots::Standing;
 pub use roots::choose;
+pub use roots::commit_is_atomic;
+pub use roots::heads_are_kept;
 pub use roots::read_head;
 pub use roots::write_head;

@@ -1,13 +1,14 @@
 // The head of a device: which root stands. Pages 0 and 1 are head pages, which are written in turn, each with two copies of its head, so that a write
 // that a stop tore is seen and the other head counts.
 ghost use mathlib.Core.Path.{_≡_};
+ghost use mathlib.Core.List.{[], _∷_};
 ghost use Prim.Native.Nat.{_+_, _≤_};
 ghost use lib.Dec.{eqb};
 ghost use lib.ListN.{length};
-ghost use Rattle.pages.specs.Lists.{pick, zeros};
-ghost use mathlib.Core.List.{[], _∷_};
+ghost use Rattle.pages.specs.Lists.{pick};
 ghost use Rattle.pages.specs.Places.{written, in-eights};
-ghost use Rattle.pages.specs.Head.{segment-numbers, root-numbers, head-numbers, head-page, segment-at, root-at, head-at, copies-agree, read-head, chosen};
+ghost use Rattle.pages.specs.Head.{segment-numbers, root-numbers, head-numbers, head-page, segment-at, root-at, head-at, copies-agree, read-head, chosen, Heads-kept};
+ghost use Rattle.pages.specs.Commit.{Commit-atomic};
 use crate::numbers::number_at;
 use crate::numbers::put_number;
 
@@ -87,6 +88,20 @@ pub fn choose(first: Option<Head>, second: Option<Head>) -> Option<Standing>
     }
 }
 
+// What was written is read, of a torn write nothing is, and a blank page is the empty head. A theorem; there is nothing to compute.
+pub fn heads_are_kept() -> u8
+    ensures { λ _. ⌜ Heads-kept ⌝ }
+{
+    0
+}
+
+// The next head is written to the head page that is not in use: whatever a stop leaves of it, the old head or the new one counts. A theorem.
+pub fn commit_is_atomic() -> u8
+    ensures { λ _. ⌜ Commit-atomic ⌝ }
+{
+    0
+}
+
 // Whether the 168 bytes of the head and their copy in the second half of the page are the same.
 fn same_copies(page: &[u8]) -> bool
     requires { ⌜ length (now page) ≡ 512 ⌝ }
@@ -108,6 +123,7 @@ fn read_copy(page: &[u8]) -> Head
     }
 }
 
+// The root whose numbers stand at a place.
 fn read_root(page: &[u8], at: usize) -> Root
     requires { ⌜ at + 144 ≤ length (now page) ⌝ }
     ensures { λ r. ⌜ r ≡ root-at (now (page .entry)) at ⌝ }
@@ -122,6 +138,7 @@ fn read_root(page: &[u8], at: usize) -> Root
     }
 }
 
+// The segment whose numbers stand at a place.
 fn read_segment(page: &[u8], at: usize) -> Segment
     requires { ⌜ at + 32 ≤ length (now page) ⌝ }
     ensures { λ r. ⌜ r ≡ segment-at (now (page .entry)) at ⌝ }
@@ -134,6 +151,7 @@ fn read_segment(page: &[u8], at: usize) -> Segment
     }
 }
 
+// Writes the numbers of a head at a place, and leaves the other bytes.
 fn put_copy(page: &mut [u8], at: usize, head: Head)
     requires { ⌜ at + 168 ≤ length (now page) ⌝ }
     ensures { λ _. ⌜ now (page .exit) ≡ written (now (page .entry)) at (in-eights (head-numbers head)) ⌝ }
@@ -144,6 +162,7 @@ fn put_copy(page: &mut [u8], at: usize, head: Head)
     put_root(page, at + 24, head.root);
 }
 
+// Writes the numbers of a root at a place, and leaves the other bytes.
 fn put_root(page: &mut [u8], at: usize, root: Root)
     requires { ⌜ at + 144 ≤ length (now page) ⌝ }
     ensures { λ _. ⌜ now (page .exit) ≡ written (now (page .entry)) at (in-eights (root-numbers root)) ⌝ }
@@ -156,6 +175,7 @@ fn put_root(page: &mut [u8], at: usize, root: Root)
     put_segment(page, at + 112, root.fourth);
 }
 
+// Writes the numbers of a segment at a place, and leaves the other bytes.
 fn put_segment(page: &mut [u8], at: usize, segment: Segment)
     requires { ⌜ at + 32 ≤ length (now page) ⌝ }
     ensures { λ _. ⌜ now (page .exit) ≡ written (now (page .entry)) at (in-eights (segment-numbers segment)) ⌝ }
@@ -166,10 +186,86 @@ fn put_segment(page: &mut [u8], at: usize, segment: Segment)
     put(page, at + 24, segment.docs);
 }
 
-// A number where its eight bytes fit.
+// Writes a number at a place where its eight bytes fit.
 fn put(page: &mut [u8], at: usize, n: u64)
     requires { ⌜ at + 8 ≤ length (now page) ⌝ }
     ensures { λ _. ⌜ now (page .exit) ≡ written (now (page .entry)) at (in-eights (n ∷ [])) ⌝ }
 {
     put_number(page, at, n);
+}
+
+#[cfg(test)]
+mod tests {
+    use super::*;
+    use std::test::*;
+
+    const SEQUENCES: [u64; 5] = [0, 1, 2, 256, u64::MAX];
+
+    fn head_of(sequence: u64) -> Head {
+        let segment = Segment {
+            start: 2,
+            rows: 3,
+            bytes: 1400,
+            docs: 1,
+        };
+        let empty = Segment {
+            start: 0,
+            rows: 0,
+            bytes: 0,
+            docs: 0,
+        };
+        Head {
+            sequence,
+            half: 0,
+            end: 6,
+            root: Root {
+                count: 7,
+                weight: 90,
+                first: segment,
+                second: empty,
+                third: empty,
+                fourth: empty,
+            },
+        }
+    }
+
+    fn keep_second_half(new: &mut [u8], old: &[u8]) {
+        if new.len() == 512 && old.len() == 512 {
+            new[256..512].copy_from_slice(&old[256..512]);
+        }
+    }
+
+    // Whether a head is read where the first half of a new page came onto an old one.
+    fn torn_is_read(old: u64, new: u64) -> bool {
+        let mut page = [0; 512];
+        let mut torn = [0; 512];
+        write_head(head_of(old), &mut page);
+        write_head(head_of(new), &mut torn);
+        keep_second_half(&mut torn, &page);
+        read_head(&torn).is_some()
+    }
+
+    fn torn_over(old: u64) -> Result<(), Fail> {
+        for new in SEQUENCES {
+            check_eq(torn_is_read(old, new), old == new)?;
+        }
+        Ok(())
+    }
+
+    #[test]
+    fn torn() -> Result<(), Fail> {
+        for old in SEQUENCES {
+            torn_over(old)?;
+        }
+        Ok(())
+    }
+
+    #[test]
+    fn blank() -> Result<(), Fail> {
+        let head = read_head(&[0; 512]).ok_or("no head")?;
+        check_eq(head.sequence, 0)?;
+        check_eq(head.root.count, 0)?;
+        check(read_head(&[0; 511]).is_none())?;
+        check(!write_head(head, &mut [0; 511]))
+    }
 }

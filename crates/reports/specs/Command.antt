@@ -39,9 +39,20 @@ fits (fetch n) = ltb n 18446744073709551616
 fits (list-words p k) = (leb 1 k && leb k 1000) && or (none-of p) (a-word p)
 fits sweep = true
 
--- what is known so far: no command yet
+-- nothing is known
 abbrev pub none : Command → Bool
 none c = false
+
+-- what is known so far: note
+abbrev pub noting : Command → Bool
+noting (put n t b) = false
+noting (remove n) = false
+noting note = true
+noting (ask k q) = false
+noting (how-many q) = false
+noting (fetch n) = false
+noting (list-words p k) = false
+noting sweep = false
 
 -- the small core: asking and counting by words and "both", and keeping documents
 unfoldable pub core-query : Query → Bool

@@ -1,7 +1,7 @@
-use mathlib.Core.Path.{_≡_, refl, sym, ap, _∙_}
+use mathlib.Core.Path.{sym, ap, _∙_}
 use native.Mathlib.Omega.{arith}
 use Rattle.std.proofs.shelf.Lists.{take-rest, drop-all}
-use lib.ListN.{take, drop}
+use lib.ListN.{take}
 use Rattle.pages.specs.Bytes.{from-eight}
 use Rattle.pages.proofs.numbers.number_at.Needs as need
 

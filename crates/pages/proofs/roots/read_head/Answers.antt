@@ -1,4 +1,4 @@
-use mathlib.Core.Path.{_≡_, sym, ap, _∙_}
+use mathlib.Core.Path.{sym, ap, _∙_}
 use Rattle.std.specs.declared.option.Option.the-variants.{Some}
 use Rattle.pages.proofs.Heads.{read-agreeing, read-differing, read-no-page}
 use Rattle.pages.proofs.roots.read_head.Needs as need

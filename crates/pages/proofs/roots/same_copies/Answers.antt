@@ -1,5 +1,3 @@
-use mathlib.Core.Path.{_≡_}
-use lib.ListN.{take, drop}
 use Rattle.std.proofs.shelf.Equals.{matches-decides}
 use Rattle.pages.proofs.Heads.{same-is}
 use Rattle.pages.proofs.roots.same_copies.Needs as need

@@ -1,4 +1,4 @@
-use mathlib.Core.Path.{_≡_, refl, sym, ap, _∙_}
+use mathlib.Core.Path.{_≡_, sym, ap, _∙_}
 use borrow.Author.Tests.{eq-eqb}
 use lib.ListN.{length, replicate}
 use Rattle.pages.proofs.Heads.{head-page-written}
