@@ -2,15 +2,14 @@
 use mathlib.Core.Path.{_≡_, refl, sym, ap, _∙_}
 use mathlib.Core.Bool.{true, false, _&&_}
 use mathlib.Core.List.{List, [], _∷_, _++_, append-assoc, append-nil}
-use mathlib.Core.Logic.{_⊎_, inl, inr, ⊎-elim}
+use mathlib.Core.Logic.{⊎-elim}
 use Prim.Native.Nat.{ℕ, zero, suc, _+_, _-_, _*_, _/_, _%_, _^_, _≤_, _<_}
 use native.Mathlib.Omega.{arith}
 use native.Mathlib.Nat.{pow-le-pow-right}
 use native.Mathlib.Numerals.{add-one}
-use lib.ListN.{length, take, drop, getD, set, length-append}
+use lib.ListN.{length, take, drop, getD, set}
 use Rattle.std.proofs.shelf.Lists.{set-at, take-more, drop-more, drop-all, at-drop-more, length-take-le, getD-append-left, getD-append-right}
 use Rattle.std.proofs.shelf.Tests.{cases-lt, both-ways, lt-ltb, le-ltb}
-use Rattle.pages.specs.Lists.{each}
 use Rattle.pages.specs.Bytes.{in-bytes, all-bytes}
 use Rattle.pages.specs.Places.{written}
 use Rattle.pages.proofs.Folds.{length-each}

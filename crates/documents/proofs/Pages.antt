@@ -1,19 +1,17 @@
 -- Laws of documents on pages. Assumes nothing.
-use mathlib.Core.Path.{_≡_, refl, sym, ap, subst, _∙_}
+use mathlib.Core.Path.{_≡_, refl, sym, ap, _∙_}
 use mathlib.Core.Bool.{Bool, true, false, _&&_}
 use mathlib.Core.List.{List, [], _∷_, _++_, append-assoc, append-nil}
-use mathlib.Core.Logic.{_⊎_, inl, inr, ⊎-elim}
-use Prim.Native.Nat.{ℕ, zero, suc, _+_, _-_, _*_, _/_, _%_, _^_, _≤_, _<_, min}
+use mathlib.Core.Logic.{⊎-elim}
+use Prim.Native.Nat.{ℕ, zero, suc, _+_, _-_, _*_, _%_, _^_, _≤_, _<_}
 use native.Mathlib.Omega.{arith}
-use native.Mathlib.Nat.{mul-suc, pow-suc}
-use native.Mathlib.Numerals.{add-one}
-use lib.Dec.{eqb, ltb, leb}
+use native.Mathlib.Nat.{mul-suc}
+use lib.Dec.{ltb, leb}
 use lib.ListN.{length, take, drop, getD, length-append, length-take, length-drop}
-use Rattle.std.specs.declared.option.Option.{Option}
 use Rattle.std.specs.declared.option.Option.the-variants.{Some, None}
-use Rattle.std.proofs.shelf.Lists.{ext-getD, take-at, drop-at, drop-drop, take-take, drop-take, getD-take, getD-drop, getD-append-left, getD-append-right, getD-past, length-take-le, take-append-le, take-append-drop, nil-from-length}
+use Rattle.std.proofs.shelf.Lists.{ext-getD, take-at, drop-at, drop-drop, take-take, drop-take, getD-take, getD-drop, getD-append-left, getD-append-right, getD-past, length-take-le, take-append-drop, nil-from-length}
 use Rattle.std.proofs.shelf.Tests.{cases-lt, cases-bool, and-parts, and-from, eq-eqb, lt-ltb, ltb-true, le-leb, leb-true}
-use Rattle.pages.specs.Lists.{pick, every, each, flat, zeros}
+use Rattle.pages.specs.Lists.{pick, every, flat, zeros}
 use Rattle.pages.specs.Bytes.{in-bytes, all-bytes, from-eight}
 use Rattle.pages.specs.Device.{Page, page-at, a-page}
 use Rattle.pages.specs.Places.{written}
@@ -26,7 +24,7 @@ use Rattle.words.specs.Words.{words}
 use Rattle.words.proofs.Laws.{words-few}
 use Rattle.documents.specs.Document.{Doc, long}
 use Rattle.documents.specs.declared.layout.Header.{Header}
-use Rattle.documents.specs.Pages.{page-count, header-bytes, header-for, content-of, filled, page-of, cut, header-of, content, pages-of, doc-page, doc-pages, padded, cells-number, header-at, read-header, low-bytes, can-write, page-from-cells, Storable, Pages-stand}
+use Rattle.documents.specs.Pages.{header-bytes, content-of, filled, page-of, cut, header-of, content, pages-of, doc-page, padded, cells-number, header-at, read-header, low-bytes, can-write, page-from-cells, Storable, Pages-stand}
 
 -- FILLED up with zeros: each place is as before, and past the end 0 as before
 pub getD-zeros : (n i : ℕ) → getD (zeros n) i 0 ≡ 0

@@ -1,8 +1,7 @@
 -- The bound on which "no room" rests: what documents take on pages is bounded by what they weigh. Assumes nothing.
-use mathlib.Core.Path.{_≡_, refl, sym, ap, _∙_}
-use mathlib.Core.Bool.{Bool, true}
-use mathlib.Core.List.{List, [], _∷_, _++_}
-use Prim.Native.Nat.{ℕ, zero, suc, _+_, _-_, _*_, _/_, _≤_, _<_}
+use mathlib.Core.Path.{_≡_, refl}
+use mathlib.Core.List.{List, [], _∷_}
+use Prim.Native.Nat.{ℕ, _+_, _-_, _*_, _/_, _≤_}
 use native.Mathlib.Omega.{arith}
 use native.Mathlib.Nat.{mul-zero, mul-add, mul-suc}
 use lib.ListN.{length}
@@ -10,7 +9,7 @@ use Rattle.pages.specs.Lists.{added-up}
 use Rattle.pages.proofs.Folds.{added-up-append}
 use Rattle.words.specs.Words.{words}
 use Rattle.words.proofs.Laws.{words-fit, words-few}
-use Rattle.documents.specs.Document.{Doc, all-words}
+use Rattle.documents.specs.Document.{Doc}
 use Rattle.documents.specs.Pages.{pages-of}
 use Rattle.documents.specs.Room.{text-length, row-bytes, doc-weight, segment-pages, Room-suffices}
 
