@@ -1,15 +1,13 @@
 // Reading a question from lent bytes. Nothing is copied: what is read is a part of them, and what comes after it.
 ghost use mathlib.Core.Path.{_≡_};
-ghost use mathlib.Core.Bool.{_&&_, not};
-ghost use mathlib.Core.List.{List};
-ghost use Prim.Native.Nat.{ℕ};
-ghost use lib.Dec.{ltb, leb};
 ghost use Rattle.std.specs.Options.{Cases};
-ghost use Rattle.words.specs.Words.{in-word};
 ghost use Rattle.questions.specs.Query.{Query};
 ghost use Rattle.questions.specs.Spelling.{a-word};
 ghost use Rattle.questions.specs.Reading.{nothing, got, whole, Left, small-letter, read-part, read-number, read-within, read-bytes, read-word, read-words, read-phrase, read-field, read-sought, read-near, read-single, read-query};
 use pages::number;
+
+// Of a longer word only so many bytes count, so none is asked for.
+const LONGEST_WORD: usize = 64;
 
 // A question was read: how many parts may still follow, and the bytes after it.
 #[derive(Clone, Copy)]
@@ -73,7 +71,7 @@ fn in_question(byte: u8) -> bool
 pub fn is_word(bytes: &[u8]) -> bool
     ensures { λ r. ⌜ r ≡ a-word (now (bytes .entry)) ⌝ }
 {
-    if bytes.len() < 1 || bytes.len() > 64 {
+    if bytes.len() < 1 || bytes.len() > LONGEST_WORD {
         return false;
     }
     for byte in bytes {

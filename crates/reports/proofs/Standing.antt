@@ -64,7 +64,7 @@ sound-flushed size d h =
     record {
       size-is = length-written (d .pages) (d .queue) ∙ h .size-is;
       pages-whole = all-pages-written (λ p. a-page p ≡ true) (d .pages) (d .queue) (h .pages-whole) (h .waiting-whole);
-      waiting-whole = tt
+      waiting-whole = tt;
     }
 
 pub sound-stopped : (size : ℕ) (d : Device) (cs : List ℕ) → Sound size d → Sound size (stopped d cs)
@@ -72,7 +72,7 @@ sound-stopped size d cs h =
     record {
       size-is = length-left (d .pages) (d .queue) cs ∙ h .size-is;
       pages-whole = all-pages-left (λ p. a-page p ≡ true) (λ a b. a-page-half a b) (d .pages) (d .queue) cs (h .pages-whole) (h .waiting-whole);
-      waiting-whole = tt
+      waiting-whole = tt;
     }
 
 -- one write more, where nothing waits
@@ -81,7 +81,7 @@ sound-queued size d k p q a h =
     record {
       size-is = h .size-is;
       pages-whole = h .pages-whole;
-      waiting-whole = subst (λ (ws : List Write). All (λ w. a-page (w .page) ≡ true) (ws ++ record { at = k; page = p } ∷ [])) (sym q) (a, tt)
+      waiting-whole = subst (λ (ws : List Write). All (λ w. a-page (w .page) ≡ true) (ws ++ record { at = k; page = p } ∷ [])) (sym q) (a, tt);
     }
 
 pub sound-read : (size : ℕ) (d : Device) (k : ℕ) → Sound size d → k < size → a-page (read-page d k) ≡ true

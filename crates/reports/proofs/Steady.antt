@@ -184,10 +184,10 @@ small-load m h =
           end-small = small-at m h 3;
           page-small = small-at m h 4;
           head-small = small-stretch m h (counted 21 5);
-          coming-small = small-stretch m h (counted 18 26)
-        }
+          coming-small = small-stretch m h (counted 18 26);
+        };
       };
-      rest-small = small-drop register-count m h
+      rest-small = small-drop register-count m h;
     }
 
 kept-pages-small : (n : ℕ) → kept-pages n < 18446744073709551616
@@ -215,9 +215,10 @@ small-up r (Some g) s h =
         end-small = pick-either (λ n. n < 18446744073709551616) (eqb (g .head .sequence) 0) 2 (g .head .end) (omega arith) small-end;
         page-small = omega (arith, k .0);
         head-small = k .1;
-        coming-small = small-root (g .head) (k .1)
-      }
+        coming-small = small-root (g .head) (k .1);
+      };
     }
+
 -- a head that was read from a page has numbers of eight bytes
 small-read : (p : List ℕ) (h : Head) → a-page p ≡ true → read-head p ≡ Some h → Bits (head-numbers h)
 unfolding all-small fits-eights
@@ -235,11 +236,11 @@ chosen-one None (Some y) s q =
 chosen-one (Some x) (Some y) s q =
     ⊎-elim
     (λ l.
-        let e : record { page = 1; head = y } ≡ s = let w = simp (lt-ltb (x .sequence) (y .sequence) l) at q in cc in
-        (omega (arith, ap (λ (g : Standing). g .page) e), inr (ap (λ (g : Standing). Some (g .head)) e)))
+    let e : record { page = 1; head = y } ≡ s = let w = simp (lt-ltb (x .sequence) (y .sequence) l) at q in cc in
+    (omega (arith, ap (λ (g : Standing). g .page) e), inr (ap (λ (g : Standing). Some (g .head)) e)))
     (λ l.
-        let e : record { page = 0; head = x } ≡ s = let w = simp (le-ltb (x .sequence) (y .sequence) l) at q in cc in
-        (omega (arith, ap (λ (g : Standing). g .page) e), inl (ap (λ (g : Standing). Some (g .head)) e)))
+    let e : record { page = 0; head = x } ≡ s = let w = simp (le-ltb (x .sequence) (y .sequence) l) at q in cc in
+    (omega (arith, ap (λ (g : Standing). g .page) e), inl (ap (λ (g : Standing). Some (g .head)) e)))
     (order (x .sequence) (y .sequence))
 
 -- the head that the registers hold is theirs
@@ -265,8 +266,8 @@ small-page First r bs a s = small-first r (read-head bs) s (λ h q. small-read b
 small-page Second r bs a s =
     small-up r (chosen (found-first (r .ledger .stands)) (read-head bs)) s
     (λ g q.
-        let c = chosen-one (found-first (r .ledger .stands)) (read-head bs) g q in
-        (c .0, ⊎-elim (λ e. subst (λ (h : Head). Bits (head-numbers h)) (found-held (r .ledger .stands) (g .head) e) (s .ledger-small .head-small)) (λ e. small-read bs (g .head) a e) (c .1)))
+    let c = chosen-one (found-first (r .ledger .stands)) (read-head bs) g q in
+    (c .0, ⊎-elim (λ e. subst (λ (h : Head). Bits (head-numbers h)) (found-held (r .ledger .stands) (g .head) e) (s .ledger-small .head-small)) (λ e. small-read bs (g .head) a e) (c .1)))
 small-page Refusing r bs a s = s
 small-page Flushing r bs a s = s
 small-page Heading r bs a s = s
@@ -313,7 +314,7 @@ small-committed l s =
       end-small = s .end-small;
       page-small = omega arith;
       head-small = bits-next _ _ (small-next _ (bits-head _ _ (s .head-small))) (bits-next _ _ half-small (bits-next _ _ (s .end-small) (s .coming-small)));
-      coming-small = s .coming-small
+      coming-small = s .coming-small;
     }
 
 small-move : (p : Phase) (r : Registers) → Small-registers r → Small-registers (moved-registers (move-at p r))
@@ -330,7 +331,7 @@ small-kept : (a b : St) → Kept a b → Small a → Small b
 small-kept a b k h =
     record {
       registers-small = subst (λ (r : Registers). Small-registers r) (sym (k .registers-are)) (small-move (a .registers .phase) (a .registers) (h .registers-small));
-      rest-small = ap all-small (k .rest-is) ∙ h .rest-small
+      rest-small = ap all-small (k .rest-is) ∙ h .rest-small;
     }
 
 small-after : (st : St) (ev : Event) → Small st → Small (after-event st ev)

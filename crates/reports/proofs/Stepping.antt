@@ -52,13 +52,13 @@ pub turn-acts : (r₀ r r₁ : Registers) (out₀ out out₁ : List ℕ) (i : �
 turn-acts r₀ r r₁ out₀ out out₁ i t inv h says rest =
     subst (λ (o : List ℕ). Step-is (moves store move most-moves (state r₀ rest)) rest o t r₁ out₁) (inv .row-is)
     (subst (λ (s : Step). Step-is s rest out t r₁ out₁) (turned r₀ r rest i h (inv .come-to rest))
-        (moved-out (move (state r rest)) rest out out₁ t r₁ (most-moves - (i + 1)) (says rest)))
+    (moved-out (move (state r rest)) rest out out₁ t r₁ (most-moves - (i + 1)) (says rest)))
 
 pub turn-goes : (r₀ r r₁ : Registers) (out₀ out out₁ : List ℕ) (i : ℕ) → Turns-left r₀ r out₀ out i → i < most-moves →
     ((rest : List ℕ) → Move-says r rest out None r₁ out₁) → Turns-left r₀ r₁ out₀ out₁ (i + 1)
 turn-goes r₀ r r₁ out₀ out out₁ i inv h says =
     let on : (rest : List ℕ) → (after-move store (moves store move (most-moves - (i + 1))) (move (state r rest)) ≡ moves store move (most-moves - (i + 1)) (state r₁ rest)) × (out₁ ≡ out) =
-        λ rest. moved-on (move (state r rest)) rest out out₁ r₁ (most-moves - (i + 1)) (says rest) in
+    λ rest. moved-on (move (state r rest)) rest out out₁ r₁ (most-moves - (i + 1)) (says rest) in
     record { row-is = on [] .1 ∙ inv .row-is; come-to = λ rest. sym (on rest .0) ∙ turned r₀ r rest i h (inv .come-to rest) }
 
 pub turns-out : (r₀ r : Registers) (out₀ out : List ℕ) (i : ℕ) → Turns-left r₀ r out₀ out i → most-moves ≤ i → (rest : List ℕ) → Moves-say r₀ rest out₀ Flush r out

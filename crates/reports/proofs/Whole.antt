@@ -57,7 +57,7 @@ well : (Safe : Device → Type 0) (Fin : St → Device → List (List ℕ) → �
     (n : ℕ) × Well own Safe₁ Fin₁ n (record { device = d; memory = m }) ev [] 0
 well Safe Fin Safe₁ Fin₁ safe fin st d m ev fit q runs =
     let g = goes-well store move deliver own 65535 Fits (λ a b q. fits-kept a b (kept-goes a b q)) (λ a b x q. fits-kept a b (kept-acts a b x q)) (λ a p h. h)
-        (λ a p h. stored-step a (page p) h) (λ a h. stored-step a next h) Safe Fin runs fit m ev q in
+    (λ a p h. stored-step a (page p) h) (λ a h. stored-step a next h) Safe Fin runs fit m ev q in
     (g .0, weaker own _ Safe₁ _ Fin₁ safe (λ w ss r reply h. fin w ss r reply (h .0) (h .1) (h .2) (h .3)) (g .0) (record { device = d; memory = m }) ev [] 0 (g .1))
 
 -- with power: the memory is a state that fits, and its registers are ready
@@ -107,7 +107,7 @@ next-fits l f e c q =
       sequence-fits = simp (lt-ltb (l .stands .head .sequence) 18446744073709551615 q) (omega arith);
       half-fits = head-fits (l .stands .head) f .half-fits;
       end-fits = e;
-      root-fits = c
+      root-fits = c;
     })
 
 -- A COMMIT: stopped before the next head is on its page, what was asked stands, or what was coming; after it what was coming
@@ -157,7 +157,7 @@ module _ (size n : ℕ) (low : 256 ≤ size) (s s₂ : Plain) (r : Registers) (r
         stands = st;
         fits = next-fits (r .ledger) (ready .counts .fits) (ready .end-small) (ready .coming-small) (omega (arith, ready .counts .few));
         few = omega (arith, sequence-next _ n (ready .counts .few), ready .counts .few);
-        holds = subst (λ (ds : List Doc). Holds ps (r .ledger .coming) ds) (sym asked-is) (ready .coming-holds)
+        holds = subst (λ (ds : List Doc). Holds ps (r .ledger .coming) ds) (sym asked-is) (ready .coming-holds);
       }
 
   torn : Either-side heading
@@ -186,7 +186,7 @@ module _ (size n : ℕ) (low : 256 ≤ size) (s s₂ : Plain) (r : Registers) (r
         counts = done-counts;
         end-small = ready .end-small;
         coming-small = ready .coming-small;
-        coming-holds = subst (λ (ds : List Doc). Holds (flushed (flushed heading) .pages) (r .ledger .coming) ds) (sym coming-is) (ready .coming-holds)
+        coming-holds = subst (λ (ds : List Doc). Holds (flushed (flushed heading) .pages) (r .ledger .coming) ds) (sym coming-is) (ready .coming-holds);
       }
 
   -- the moves of a commit, from where it begins
@@ -196,7 +196,7 @@ module _ (size n : ℕ) (low : 256 ≤ size) (s s₂ : Plain) (r : Registers) (r
   commit-runs Fin fin =
       flushing _ refl before
       (writing _ _ _ refl between (sound-writable size (flushed d) (other-page (r .ledger)) (head-page (next-head (r .ledger))) sound-settled (omega arith) (head-page-is-page (next-head (r .ledger))))
-          (flushing _ refl torn (ending _ refl after-commit fin)))
+      (flushing _ refl torn (ending _ refl after-commit fin)))
 
 -- note may be answered so
 may-note : (pages : ℕ) (s : Plain) (t : List ℕ) (r : ℕ) → Said t note → May noting pages s t [] r 0 (turn s note .next)
@@ -275,7 +275,7 @@ module _ (size : ℕ) (low : 256 ≤ size) where
           counts = up-counts;
           end-small = pick-either (λ m. m < 18446744073709551616) (eqb (down .head .sequence) 0) 2 (down .head .end) (omega arith) (f .end-fits);
           coming-small = f .root-fits;
-          coming-holds = subst (λ (ds : List Doc). Holds (flushed d .pages) (down .head .root) ds) (sym (down .same)) (up-counts .holds)
+          coming-holds = subst (λ (ds : List Doc). Holds (flushed d .pages) (down .head .root) ds) (sym (down .same)) (up-counts .holds);
         }
 
     wakes : Runs move deliver Stays Awake-now (record { registers = woken-up; rest = rest }) d [] 0
@@ -286,9 +286,9 @@ module _ (size : ℕ) (low : 256 ≤ size) where
         let in-state : Registers → St = λ r. record { registers = r; rest = rest } in
         reading _ 0 refl stays
         (subst (λ (x : Registers). Runs move deliver Stays Awake-now (in-state x) d [] 1) (sym (taken woken-up first-page a))
-            (reading _ 1 refl stays
-                (subst (λ (x : Registers). Runs move deliver Stays Awake-now (in-state x) d [] 2) (sym (taken half-way second-page b ∙ finds))
-                    (ending _ refl stays (refl, refl, ready-up)))))
+        (reading _ 1 refl stays
+        (subst (λ (x : Registers). Runs move deliver Stays Awake-now (in-state x) d [] 2) (sym (taken half-way second-page b ∙ finds))
+        (ending _ refl stays (refl, refl, ready-up)))))
 
   -- a stop after coming up: what stood stands
   asleep : (n : ℕ) (s : Plain) (l : Ledger) (x : Device) → Ready size n l x s → s .coming ≡ s .asked → (cs : List ℕ) → Down size n (stopped x cs) s
@@ -313,7 +313,7 @@ module _ (size : ℕ) (low : 256 ≤ size) where
           counts = counts-fewer _ _ _ _ _ (ready .counts);
           end-small = ready .end-small;
           coming-small = ready .coming-small;
-          coming-holds = ready .coming-holds
+          coming-holds = ready .coming-holds;
         }
 
     stop-here : (cs : List ℕ) → Down size n (stopped (w .device) cs) (after-stop s)
@@ -324,14 +324,15 @@ module _ (size : ℕ) (low : 256 ≤ size) where
     unfolding move
     refuses k q may =
         let g = well (λ x. (cs : List ℕ) → Down size n (stopped x cs) (after-stop s))
-            (λ st₁ x ss r reply. (x ≡ w .device) × (st₁ .registers .ledger ≡ st .registers .ledger) × (ss ≡ []) × (reply ≡ refusal-end k)) _ _
-            (λ v h cs. inl (h cs))
-            (λ v ss r reply st₁ m f h.
-                (subst (λ (x : List (List ℕ)). May noting size s t x r reply s) (sym (h .2)) (subst (λ (x : ℕ). May noting size s t [] r x s) (sym (h .3)) (may r)),
-                    (st₁, m, f, subst (λ (x : Device). Ready size n (st₁ .registers .ledger) x s) (sym (h .0)) (subst (λ (x : Ledger). Ready size n x (w .device) s) (sym (h .1)) still-ready)),
-                    subst (λ (x : Device). (cs : List ℕ) → Down size n (stopped x cs) (after-stop s)) (sym (h .0)) stop-here))
-            (record { registers = refusal-next k (st .registers); rest = st .rest }) (w .device) (w .memory) (said t) fit (stepped-to _ q)
-            (refusing _ k refl stop-here (refl, refl, refl, refl)) in
+        (λ st₁ x ss r reply. (x ≡ w .device) × (st₁ .registers .ledger ≡ st .registers .ledger) × (ss ≡ []) × (reply ≡ refusal-end k)) _ _
+        (λ v h cs. inl (h cs))
+        (λ v ss r reply st₁ m f h. (
+          subst (λ (x : List (List ℕ)). May noting size s t x r reply s) (sym (h .2)) (subst (λ (x : ℕ). May noting size s t [] r x s) (sym (h .3)) (may r)),
+          (st₁, m, f, subst (λ (x : Device). Ready size n (st₁ .registers .ledger) x s) (sym (h .0)) (subst (λ (x : Ledger). Ready size n x (w .device) s) (sym (h .1)) still-ready)),
+          subst (λ (x : Device). (cs : List ℕ) → Down size n (stopped x cs) (after-stop s)) (sym (h .0)) stop-here,
+        ))
+        (record { registers = refusal-next k (st .registers); rest = st .rest }) (w .device) (w .memory) (said t) fit (stepped-to _ q)
+        (refusing _ k refl stop-here (refl, refl, refl, refl)) in
         (g .0, s, g .1)
 
     -- noted
@@ -341,12 +342,12 @@ module _ (size : ℕ) (low : 256 ≤ size) where
         let s₂ : Plain = turn s note .next in
         let may : (r : ℕ) → May noting size s t [] r 0 s₂ = λ r. may-note size s t r said-so in
         let g = well (Either-side size n low s s₂ (st .registers) (st .rest) (w .device) ready refl refl)
-            (λ st₁ x ss r reply. (ss ≡ []) × (reply ≡ 0) × Ready size n (st₁ .registers .ledger) x s₂ × ((cs : List ℕ) → Down size n (stopped x cs) (after-stop s₂))) _ _
-            (λ v h cs. h cs)
-            (λ v ss r reply st₁ m f h.
-                (subst (λ (x : List (List ℕ)). May noting size s t x r reply s₂) (sym (h .0)) (subst (λ (x : ℕ). May noting size s t [] r x s₂) (sym (h .1)) (may r)), (st₁, m, f, h .2), h .3))
-            (record { registers = at-phase Flushing (st .registers); rest = st .rest }) (w .device) (w .memory) (said t) fit (stepped-to _ q)
-            (commit-runs size n low s s₂ (st .registers) (st .rest) (w .device) ready refl refl _ (refl, refl, ready-after size n low s s₂ (st .registers) (st .rest) (w .device) ready refl refl, stopped-after size n low s s₂ (st .registers) (st .rest) (w .device) ready refl refl)) in
+        (λ st₁ x ss r reply. (ss ≡ []) × (reply ≡ 0) × Ready size n (st₁ .registers .ledger) x s₂ × ((cs : List ℕ) → Down size n (stopped x cs) (after-stop s₂))) _ _
+        (λ v h cs. h cs)
+        (λ v ss r reply st₁ m f h.
+        (subst (λ (x : List (List ℕ)). May noting size s t x r reply s₂) (sym (h .0)) (subst (λ (x : ℕ). May noting size s t [] r x s₂) (sym (h .1)) (may r)), (st₁, m, f, h .2), h .3))
+        (record { registers = at-phase Flushing (st .registers); rest = st .rest }) (w .device) (w .memory) (said t) fit (stepped-to _ q)
+        (commit-runs size n low s s₂ (st .registers) (st .rest) (w .device) ready refl refl _ (refl, refl, ready-after size n low s s₂ (st .registers) (st .rest) (w .device) ready refl refl, stopped-after size n low s s₂ (st .registers) (st .rest) (w .device) ready refl refl)) in
         (g .0, s₂, g .1)
 
     -- by what the bytes say
@@ -377,7 +378,7 @@ module _ (size : ℕ) (low : 256 ≤ size) where
       well (Stays n d s down rest) (λ st x ss k reply. (ss ≡ []) × (reply ≡ 0) × Ready size n (st .registers .ledger) x s) _ _
       (λ w h cs. h cs)
       (λ w ss r reply st m f h.
-          (h .0, h .1, (st, m, f, h .2), (λ cs. asleep n s (st .registers .ledger) (w .device) (h .2) (down .same) cs), stop-keeps size n (w .device) _ _ s (h .2 .sound) (h .2 .apart) (h .2 .counts)))
+      (h .0, h .1, (st, m, f, h .2), (λ cs. asleep n s (st .registers .ledger) (w .device) (h .2) (down .same) cs), stop-keeps size n (w .device) _ _ s (h .2 .sound) (h .2 .apart) (h .2 .counts)))
       (after-event (load (zeros cells)) (on (length (d .pages)))) d (zeros cells) (on (length (d .pages))) fit
       (step-at (zeros cells) (on (length (d .pages))) (length-zeros cells))
       (wakes n d s down rest)
@@ -392,12 +393,13 @@ new-down size n low few =
       page = 0;
       head = empty-head;
       counts = record { stands = subst (λ (m : ℕ). Stands (blank m) 0 empty-head) e (stands-blank (size - 2)); fits = fits-empty; few = omega arith; holds = (refl, refl) };
-      same = refl
+      same = refl;
     }
 
 -- WHOLE
 pub whole-noting : Whole noting own
 unfolding Whole
-whole-noting =
-    (steady,
-        λ size is low high few ok. right (May noting size) after-stop own (Down size) (Up size) (boots size low) (obeys size low) is false (new-world size) _ (new-down size (length is) low few) ok)
+whole-noting = (
+  steady,
+  λ size is low high few ok. right (May noting size) after-stop own (Down size) (Up size) (boots size low) (obeys size low) is false (new-world size) _ (new-down size (length is) low few) ok,
+)

@@ -28,8 +28,8 @@ phase-number Finishing = 7
 abbrev pub phase-of : ℕ → Phase
 phase-of n =
     pick (eqb n 1) First
-        (pick (eqb n 2) Second
-            (pick (eqb n 3) Refusing (pick (eqb n 4) Flushing (pick (eqb n 5) Heading (pick (eqb n 6) Settling (pick (eqb n 7) Finishing Idle))))))
+    (pick (eqb n 2) Second
+    (pick (eqb n 3) Refusing (pick (eqb n 4) Flushing (pick (eqb n 5) Heading (pick (eqb n 6) Settling (pick (eqb n 7) Finishing Idle))))))
 
 abbrev pub standing-numbers : Standing → List ℕ
 standing-numbers s = s .page ∷ head-numbers (s .head)

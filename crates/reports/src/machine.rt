@@ -32,8 +32,17 @@ fn next_head(ledger: Ledger) -> Head
     ensures { λ r. ⌜ r ≡ next-head ledger ⌝ }
 {
     let standing = ledger.stands.head;
-    let sequence = if standing.sequence < u64::MAX { standing.sequence + 1 } else { standing.sequence };
-    Head { sequence, half: standing.half, end: ledger.end, root: ledger.coming }
+    let sequence = if standing.sequence < u64::MAX {
+        standing.sequence + 1
+    } else {
+        standing.sequence
+    };
+    Head {
+        sequence,
+        half: standing.half,
+        end: ledger.end,
+        root: ledger.coming,
+    }
 }
 
 // The next head goes into the lent row, to be written to the head page that is not in use; it is the one that stands from now on.

@@ -99,7 +99,11 @@ impl Registers {
         requires { ⌜ 44 ≤ length (now memory) ⌝ }
         ensures { λ r. ⌜ r ≡ registers-in (now (memory .entry)) ⌝ }
     {
-        Registers { phase: Phase::of(memory[0]), reply: memory[1], ledger: load_ledger(memory, 2) }
+        Registers {
+            phase: Phase::of(memory[0]),
+            reply: memory[1],
+            ledger: load_ledger(memory, 2),
+        }
     }
 
     // Puts the registers back to the front of memory.
@@ -116,14 +120,22 @@ impl Registers {
     pub(crate) fn at(self, phase: Phase) -> Registers
         ensures { λ r. ⌜ r ≡ at-phase phase self ⌝ }
     {
-        Registers { phase, reply: self.reply, ledger: self.ledger }
+        Registers {
+            phase,
+            reply: self.reply,
+            ledger: self.ledger,
+        }
     }
 
     // About to refuse, with this number.
     pub(crate) fn refusing(self, reply: u64) -> Registers
         ensures { λ r. ⌜ r ≡ refusal-next reply self ⌝ }
     {
-        Registers { phase: Phase::Refusing, reply, ledger: self.ledger }
+        Registers {
+            phase: Phase::Refusing,
+            reply,
+            ledger: self.ledger,
+        }
     }
 }
 
@@ -131,7 +143,12 @@ fn load_segment(memory: &[u64], at: usize) -> Segment
     requires { ⌜ at + 4 ≤ length (now memory) ⌝ }
     ensures { λ r. ⌜ r ≡ segment-in (now (memory .entry)) at ⌝ }
 {
-    Segment { start: memory[at], rows: memory[at + 1], bytes: memory[at + 2], docs: memory[at + 3] }
+    Segment {
+        start: memory[at],
+        rows: memory[at + 1],
+        bytes: memory[at + 2],
+        docs: memory[at + 3],
+    }
 }
 
 fn load_root(memory: &[u64], at: usize) -> Root
@@ -153,8 +170,16 @@ fn load_standing(memory: &[u64], at: usize) -> Standing
     ensures { λ r. ⌜ r ≡ standing-in (now (memory .entry)) at ⌝ }
 {
     let root = load_root(memory, at + 4);
-    let head = Head { sequence: memory[at + 1], half: memory[at + 2], end: memory[at + 3], root };
-    Standing { page: memory[at], head }
+    let head = Head {
+        sequence: memory[at + 1],
+        half: memory[at + 2],
+        end: memory[at + 3],
+        root,
+    };
+    Standing {
+        page: memory[at],
+        head,
+    }
 }
 
 fn load_ledger(memory: &[u64], at: usize) -> Ledger
@@ -163,7 +188,12 @@ fn load_ledger(memory: &[u64], at: usize) -> Ledger
 {
     let stands = load_standing(memory, at + 2);
     let coming = load_root(memory, at + 24);
-    Ledger { pages: memory[at], end: memory[at + 1], stands, coming }
+    Ledger {
+        pages: memory[at],
+        end: memory[at + 1],
+        stands,
+        coming,
+    }
 }
 
 // One number to its place in memory.

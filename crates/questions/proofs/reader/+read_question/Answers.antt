@@ -5,7 +5,7 @@ use Prim.Native.Nat.{ℕ, _-_, _<_, _≤_}
 use native.Mathlib.Omega.{arith}
 use Rattle.std.proofs.shelf.Lists.{nil-from-length}
 use Rattle.questions.specs.declared.reader.Question.{Question}
-use Rattle.questions.specs.Reading.{then, read-byte, read-kind, read-query, whole}
+use Rattle.questions.specs.Reading.{then, read-byte, read-kind, read-single, read-query, whole}
 use Rattle.questions.proofs.Reading.{then-on, then-none, query-none, query-more, query-at, kind-two, kind-single, two-none, two-left, told-joined}
 use Rattle.questions.proofs.reader.+read_question.Needs as need
 
@@ -31,7 +31,7 @@ returns-in-Break-after t c =
     let e = c .in-Continue-kind .ensures tt .cases .0 in
     rw (c .from-residual-in-Break-after .ensures)
     (query-at (c .args .depth) (c .args .left) (c .args .bytes .now) kind rest (omega arith) (omega arith) e
-    ∙ kind-single kind (outside kind (c .then-kind-lt5 .either)) (read-query (c .args .depth - 1)) (c .args .left - 1) rest ∙ then-none _ (c .in-Break-after .ensures tt))
+    ∙ kind-single kind (outside kind (c .then-kind-lt5 .either)) (read-query (c .args .depth - 1)) (c .args .left - 1) rest ∙ then-none {r = read-single kind rest} (whole (c .args .left - 1)) (c .in-Break-after .ensures tt))
 
 pub returns-then-kind-lt5 : need.returns-then-kind-lt5
 returns-then-kind-lt5 t c =
@@ -41,7 +41,7 @@ returns-then-kind-lt5 t c =
     let s = c .in-Continue-after .ensures tt in (
       s .0,
       query-at (c .args .depth) (c .args .left) (c .args .bytes .now) kind rest (omega arith) (omega arith) e
-          ∙ kind-single kind (outside kind (c .then-kind-lt5 .either)) (read-query (c .args .depth - 1)) (c .args .left - 1) rest ∙ then-on (whole (c .args .left - 1)) (s .1),
+          ∙ kind-single kind (outside kind (c .then-kind-lt5 .either)) (read-query (c .args .depth - 1)) (c .args .left - 1) rest ∙ then-on {r = read-single kind rest} (whole (c .args .left - 1)) (s .1),
     )
 
 pub returns-in-Break-first : need.returns-in-Break-first

@@ -24,5 +24,5 @@ loop-byte-again c =
 pub returns : need.returns
 returns c =
     let bs = c .args .bytes .now in
-    sym (and-from _ _ (and-from _ _ (le-leb 1 (length bs) (c .if-bytes-lt1 .left)) (le-leb (length bs) 64 (c .if-bytes-gt64 .left)))
+    sym (and-from _ _ (and-from _ _ (le-leb 1 (length bs) (c .if-bytes-lt1 .left)) (le-leb (length bs) 64 (c .if-bytes-gt-LONGEST-WORD .left)))
     (sym (c .loop-byte .inv) ∙ at-drop-all (every small-letter) bs (c .loop-byte .byte-index) (c .loop-byte-test .left)))

@@ -16,9 +16,9 @@ returns-then-memory-ne-CELLS c =
     let o = c .args .out .now in
     record {
       says = subst (λ (b : Bool). Step-says m (c .args .kind) (c .args .bytes .now) o b (No 0) m o)
-        (sym (fits-not m (c .args .kind) (c .args .bytes .now) o (c .then-memory-ne-CELLS .either)))
-        (refl, refl, refl);
-      whole = whole-noting
+          (sym (fits-not m (c .args .kind) (c .args .bytes .now) o (c .then-memory-ne-CELLS .either)))
+          (refl, refl, refl);
+      whole = whole-noting;
     }
 
 pub returns : need.returns
@@ -31,7 +31,7 @@ returns c =
     let is = c .take-in-registers .ensures ∙ ap (told (c .load .result)) (c .heard .ensures) ∙ ap (λ r. told r ev) (c .load .ensures) in
     record {
       says = subst (λ (b : Bool). Step-says m (c .args .kind) bs o b (c .run-act .result) (c .store .last .memory) (c .run-act .last .out))
-        (sym (fits-so m (c .args .kind) bs o (c .if-memory-ne-CELLS .left) (c .if-kind-gt3 .left) (c .if-out-lt-ROW .left)))
-        (stepped m ev _ _ _ _ o _ (c .if-memory-ne-CELLS .left) is (c .run-act .ensures (drop register-count m)) (c .store .ensures));
-      whole = whole-noting
+          (sym (fits-so m (c .args .kind) bs o (c .if-memory-ne-CELLS .left) (c .if-kind-gt3 .left) (c .if-out-lt-ROW .left)))
+          (stepped m ev _ _ _ _ o _ (c .if-memory-ne-CELLS .left) is (c .run-act .ensures (drop register-count m)) (c .store .ensures));
+      whole = whole-noting;
     }

@@ -24,5 +24,5 @@ returns c =
     let next : h ≡ head-page (next-head l) = ap head-page (c .next-head-head .ensures) in
     record {
       ledger = search needs;
-      told = (search needs, ap (λ p. p ++ drop 512 o) (page ∙ next) ∙ ap (λ n. head-page (next-head l) ++ drop n o) (sym (length-head-page (next-head l))))
+      told = (search needs, ap (λ p. p ++ drop 512 o) (page ∙ next) ∙ ap (λ n. head-page (next-head l) ++ drop n o) (sym (length-head-page (next-head l))));
     }
