@@ -14,6 +14,7 @@ use Rattle.std.specs.declared.option.Option.the-variants.{Some, None}
 use Rattle.pages.specs.Lists.{pick, every, each, zeros}
 use Rattle.pages.specs.Device.{a-page}
 use Rattle.pages.specs.Head.{head-numbers, root-numbers, fits-eights, read-head, chosen}
+use Rattle.pages.specs.declared.roots.Root.{Root}
 use Rattle.pages.specs.declared.roots.Head.{Head}
 use Rattle.pages.specs.declared.roots.Standing.{Standing}
 use Rattle.pages.proofs.Device.{length-zeros}
@@ -25,12 +26,12 @@ use Rattle.reports.specs.Command.{Command, put, remove, note, ask, how-many, f
 use Rattle.reports.specs.Reading.{Reading, no-command, a-command, read-command}
 use Rattle.reports.specs.Run.{Event, on, said, page, next, Act, Step, all-small, Steady}
 use Rattle.reports.specs.Moves.{Moved, goes, acts, moves}
-use Rattle.reports.specs.Registers.{phase-of, phase-number, ledger-numbers, register-numbers, register-count, at-phase}
+use Rattle.reports.specs.Registers.{phase-of, phase-number, ledger-numbers, register-numbers, register-count, at-phase, refusal-next}
 use Rattle.reports.specs.declared.registers.Phase.{Phase}
 use Rattle.reports.specs.declared.registers.Phase.the-variants.{Idle, First, Second, Refusing, Flushing, Heading, Settling, Finishing}
 use Rattle.reports.specs.declared.registers.Ledger.{Ledger}
 use Rattle.reports.specs.declared.registers.Registers.{Registers}
-use Rattle.reports.specs.Machine.{St, load, store, told, kept-pages, waking, up, first-found, found-first, page-told, begun, begun-from, next-sequence, next-head, committed, move, move-at, with-rest, most-moves, cells, after-event, own, own-step}
+use Rattle.reports.specs.Machine.{St, load, store, told, kept-pages, waking, up, first-found, found-first, page-told, missing, begun, begun-from, next-sequence, next-head, committed, move, move-at, with-rest, most-moves, cells, after-event, own, own-step}
 use Rattle.reports.proofs.Moves.{moves-keep}
 use Rattle.reports.proofs.Stepping.{step-at}
 
@@ -274,13 +275,16 @@ small-page Heading r bs a s = s
 small-page Settling r bs a s = s
 small-page Finishing r bs a s = s
 
+small-missing : (r : Registers) (t : Root) → Small-registers r → Small-registers (missing t r)
+small-missing r t s = pick-either Small-registers (eqb (t .count) 0) (refusal-next 3 r) (refusal-next 2 r) (small-reply r Refusing 3 (omega arith) s) (small-reply r Refusing 2 (omega arith) s)
+
 small-begun : (r : Registers) (c : Command) → Small-registers r → Small-registers (begun r c)
 small-begun r (put n t b) s = small-reply r Refusing 2 (omega arith) s
-small-begun r (remove n) s = small-reply r Refusing 2 (omega arith) s
+small-begun r (remove n) s = small-missing r (r .ledger .coming) s
 small-begun r note s = small-phase r Flushing s
 small-begun r (ask k q) s = small-reply r Refusing 2 (omega arith) s
 small-begun r (how-many q) s = small-reply r Refusing 2 (omega arith) s
-small-begun r (fetch n) s = small-reply r Refusing 2 (omega arith) s
+small-begun r (fetch n) s = small-missing r (r .ledger .stands .head .root) s
 small-begun r (list-words p k) s = small-reply r Refusing 2 (omega arith) s
 small-begun r sweep s = small-reply r Refusing 2 (omega arith) s
 

@@ -11,10 +11,11 @@ use borrow.Author.Tests.{lt-ltb, ltb-true}
 use Rattle.std.proofs.shelf.Tests.{and-from}
 use Rattle.std.specs.declared.option.Option.{Option}
 use Rattle.std.specs.declared.option.Option.the-variants.{Some, None}
-use Rattle.pages.specs.Lists.{pick, every, zeros}
+use Rattle.pages.specs.Lists.{pick, every, zeros, none-of}
 use Rattle.pages.specs.Device.{Device, Page, page-at, all-written, read-page, flushed, left, stopped, a-page, blank}
 use Rattle.pages.specs.Head.{head-numbers, root-numbers, head-page, fits-eights, read-head, chosen, standing, empty-head}
 use Rattle.pages.specs.Commit.{Stands, Atomic, past-heads, committing, Commit-atomic}
+use Rattle.pages.specs.declared.roots.Root.{Root}
 use Rattle.pages.specs.declared.roots.Head.{Head}
 use Rattle.pages.specs.declared.roots.Standing.{Standing}
 use Rattle.pages.proofs.Bytes.{and-true}
@@ -23,13 +24,13 @@ use Rattle.pages.proofs.Device.{length-zeros, length-blank, blank-pages, writte
 use Rattle.pages.proofs.Folds.{pick-either}
 use Rattle.pages.proofs.Heads.{head-page-is-page}
 use Rattle.documents.specs.Document.{Doc}
-use Rattle.reports.specs.Command.{Command, put, remove, note, ask, how-many, fetch, list-words, sweep, noting}
+use Rattle.reports.specs.Command.{Command, put, remove, note, ask, how-many, fetch, list-words, sweep, finding}
 use Rattle.reports.specs.Reading.{Reading, no-command, a-command, read-command}
-use Rattle.reports.specs.Plain.{Plain, turn, after-stop}
+use Rattle.reports.specs.Plain.{Plain, turn, after-stop, named}
 use Rattle.reports.specs.Run.{Event, on, said, page, next, World, queued, refusal-end, new-world}
 use Rattle.reports.specs.Moves.{goes, acts, moves}
 use Rattle.reports.specs.Registers.{at-phase, refusal-next}
-use Rattle.reports.specs.Machine.{St, load, store, told, waking, up, first-found, found-first, page-told, begun, begun-from, filled, next-sequence, next-head, other-page, committed, move, most-moves, cells, after-event, own}
+use Rattle.reports.specs.Machine.{St, load, store, told, waking, up, first-found, found-first, page-told, missing, begun, begun-from, filled, next-sequence, next-head, other-page, committed, move, most-moves, cells, after-event, own}
 use Rattle.reports.specs.declared.registers.Phase.{Phase}
 use Rattle.reports.specs.declared.registers.Phase.the-variants.{Idle, First, Second, Refusing, Flushing, Heading, Settling, Finishing}
 use Rattle.reports.specs.declared.registers.Ledger.{Ledger}
@@ -199,18 +200,35 @@ module _ (size n : ℕ) (low : 256 ≤ size) (s s₂ : Plain) (r : Registers) (r
       (flushing _ refl torn (ending _ refl after-commit fin)))
 
 -- note may be answered so
-may-note : (pages : ℕ) (s : Plain) (t : List ℕ) (r : ℕ) → Said t note → May noting pages s t [] r 0 (turn s note .next)
+may-note : (pages : ℕ) (s : Plain) (t : List ℕ) (r : ℕ) → Said t note → May finding pages s t [] r 0 (turn s note .next)
 unfolding May Known-may may-use turn
 may-note pages s t r h = inl (note, h, refl, inl (refl, refl, refl, refl))
 
 -- what is no command, or none that is known, may be refused so
-may-refuse-1 : (pages : ℕ) (s : Plain) (t : List ℕ) (r : ℕ) → read-command t ≡ no-command → May noting pages s t [] r (refusal-end 1) s
+may-refuse-1 : (pages : ℕ) (s : Plain) (t : List ℕ) (r : ℕ) → read-command t ≡ no-command → May finding pages s t [] r (refusal-end 1) s
 unfolding May
 may-refuse-1 pages s t r q = inr (inr (λ a h. cc (read-said t a h), refl, refl, refl))
 
-may-refuse-2 : (pages : ℕ) (s : Plain) (t : List ℕ) (c : Command) (r : ℕ) → Said t c → noting c ≡ false → May noting pages s t [] r (refusal-end 2) s
+may-refuse-2 : (pages : ℕ) (s : Plain) (t : List ℕ) (c : Command) (r : ℕ) → Said t c → finding c ≡ false → May finding pages s t [] r (refusal-end 2) s
 unfolding May
 may-refuse-2 pages s t c r h u = inr (inl (c, h, u, refl, refl, refl))
+
+-- where no documents are, none is removed or fetched
+may-remove-none : (pages : ℕ) (s : Plain) (t : List ℕ) (k : ℕ) → Said t (remove k) → s .coming ≡ [] → May finding pages s t [] 0 (refusal-end 3) s
+unfolding May Known-may may-use turn
+may-remove-none pages s t k h e =
+    let none : none-of (named k (s .coming)) ≡ true = ap (λ ds. none-of (named k ds)) e in
+    inl (remove k, h, refl, inl (simp none, simp none, simp none, refl))
+
+may-fetch-none : (pages : ℕ) (s : Plain) (t : List ℕ) (k : ℕ) → Said t (fetch k) → s .asked ≡ [] → May finding pages s t [] 0 (refusal-end 3) s
+unfolding May Known-may may-use turn
+may-fetch-none pages s t k h e =
+    let none : none-of (named k (s .asked)) ≡ true = ap (λ ds. none-of (named k ds)) e in
+    inl (fetch k, h, refl, inl (simp none, simp none, simp none, refl))
+
+-- the empty root has no documents
+none-under : (t : Root) (r : Registers) → t ≡ empty-head .root → missing t r ≡ refusal-next 3 r
+none-under t r e = ap (λ x. missing x r) e
 
 -- what the registers hold of the first head is that head
 held-first : (x : Option Head) → found-first (first-found x) ≡ x
@@ -298,7 +316,7 @@ module _ (size : ℕ) (low : 256 ≤ size) where
   -- A COMMAND, from where its bytes led to
   abbrev Goes : ℕ → World → Plain → List ℕ → Type 0
   Goes n w s t =
-      (k : ℕ) × (s₂ : Plain) × Well own (Either-stands (May noting size) after-stop own (Down size) (Up size) n s s₂) (Obeyed (May noting size) after-stop own (Down size) (Up size) n s t s₂) k w (said t) [] 0
+      (k : ℕ) × (s₂ : Plain) × Well own (Either-stands (May finding size) after-stop own (Down size) (Up size) n s s₂) (Obeyed (May finding size) after-stop own (Down size) (Up size) n s t s₂) k w (said t) [] 0
 
   module _ (n : ℕ) (w : World) (s : Plain) (t : List ℕ) (st : St) (memory-is : w .memory ≡ store st) (fit : Fits st) (ready : Ready size (suc n) (st .registers .ledger) (w .device) s) where
     -- the step at the command is moves from what it makes of the registers
@@ -320,19 +338,20 @@ module _ (size : ℕ) (low : 256 ≤ size) where
     stop-here = stop-keeps size n (w .device) _ _ s (still-ready .sound) (still-ready .apart) (still-ready .counts)
 
     -- refused, with a number that may be said of it
-    refuses : (k : ℕ) → told (st .registers) (said t) ≡ refusal-next k (st .registers) → ((r : ℕ) → May noting size s t [] r (refusal-end k) s) → Goes n w s t
+    refuses : (k : ℕ) → told (st .registers) (said t) ≡ refusal-next k (st .registers) → May finding size s t [] 0 (refusal-end k) s → Goes n w s t
     unfolding move
     refuses k q may =
         let g = well (λ x. (cs : List ℕ) → Down size n (stopped x cs) (after-stop s))
-        (λ st₁ x ss r reply. (x ≡ w .device) × (st₁ .registers .ledger ≡ st .registers .ledger) × (ss ≡ []) × (reply ≡ refusal-end k)) _ _
+        (λ st₁ x ss r reply. (x ≡ w .device) × (st₁ .registers .ledger ≡ st .registers .ledger) × (ss ≡ []) × (reply ≡ refusal-end k) × (r ≡ 0)) _ _
         (λ v h cs. inl (h cs))
         (λ v ss r reply st₁ m f h. (
-          subst (λ (x : List (List ℕ)). May noting size s t x r reply s) (sym (h .2)) (subst (λ (x : ℕ). May noting size s t [] r x s) (sym (h .3)) (may r)),
+          subst (λ (x : List (List ℕ)). May finding size s t x r reply s) (sym (h .2))
+              (subst (λ (x : ℕ). May finding size s t [] r x s) (sym (h .3)) (subst (λ (x : ℕ). May finding size s t [] x (refusal-end k) s) (sym (h .4)) may)),
           (st₁, m, f, subst (λ (x : Device). Ready size n (st₁ .registers .ledger) x s) (sym (h .0)) (subst (λ (x : Ledger). Ready size n x (w .device) s) (sym (h .1)) still-ready)),
           subst (λ (x : Device). (cs : List ℕ) → Down size n (stopped x cs) (after-stop s)) (sym (h .0)) stop-here,
         ))
         (record { registers = refusal-next k (st .registers); rest = st .rest }) (w .device) (w .memory) (said t) fit (stepped-to _ q)
-        (refusing _ k refl stop-here (refl, refl, refl, refl)) in
+        (refusing _ k refl stop-here (refl, refl, refl, refl, refl)) in
         (g .0, s, g .1)
 
     -- noted
@@ -340,12 +359,12 @@ module _ (size : ℕ) (low : 256 ≤ size) where
     unfolding turn
     notes said-so q =
         let s₂ : Plain = turn s note .next in
-        let may : (r : ℕ) → May noting size s t [] r 0 s₂ = λ r. may-note size s t r said-so in
+        let may : (r : ℕ) → May finding size s t [] r 0 s₂ = λ r. may-note size s t r said-so in
         let g = well (Either-side size n low s s₂ (st .registers) (st .rest) (w .device) ready refl refl)
         (λ st₁ x ss r reply. (ss ≡ []) × (reply ≡ 0) × Ready size n (st₁ .registers .ledger) x s₂ × ((cs : List ℕ) → Down size n (stopped x cs) (after-stop s₂))) _ _
         (λ v h cs. h cs)
         (λ v ss r reply st₁ m f h.
-        (subst (λ (x : List (List ℕ)). May noting size s t x r reply s₂) (sym (h .0)) (subst (λ (x : ℕ). May noting size s t [] r x s₂) (sym (h .1)) (may r)), (st₁, m, f, h .2), h .3))
+        (subst (λ (x : List (List ℕ)). May finding size s t x r reply s₂) (sym (h .0)) (subst (λ (x : ℕ). May finding size s t [] r x s₂) (sym (h .1)) (may r)), (st₁, m, f, h .2), h .3))
         (record { registers = at-phase Flushing (st .registers); rest = st .rest }) (w .device) (w .memory) (said t) fit (stepped-to _ q)
         (commit-runs size n low s s₂ (st .registers) (st .rest) (w .device) ready refl refl _ (refl, refl, ready-after size n low s s₂ (st .registers) (st .rest) (w .device) ready refl refl, stopped-after size n low s s₂ (st .registers) (st .rest) (w .device) ready refl refl)) in
         (g .0, s₂, g .1)
@@ -354,23 +373,23 @@ module _ (size : ℕ) (low : 256 ≤ size) where
     by-command : (c : Command) → read-command t ≡ a-command c → Goes n w s t
     by-command c q = by c (said-read t c q) (ap (begun-from (st .registers)) q) where
       by : (c : Command) → Said t c → told (st .registers) (said t) ≡ begun (st .registers) c → Goes n w s t
-      by (put k a b) h e = refuses 2 e (λ r. may-refuse-2 size s t _ r h refl)
-      by (remove k) h e = refuses 2 e (λ r. may-refuse-2 size s t _ r h refl)
+      by (put k a b) h e = refuses 2 e (may-refuse-2 size s t _ 0 h refl)
+      by (remove k) h e = refuses 3 (e ∙ none-under (st .registers .ledger .coming) (st .registers) (ready .coming-holds .0)) (may-remove-none size s t k h (ready .coming-holds .1))
       by note h e = notes h e
-      by (ask k x) h e = refuses 2 e (λ r. may-refuse-2 size s t _ r h refl)
-      by (how-many x) h e = refuses 2 e (λ r. may-refuse-2 size s t _ r h refl)
-      by (fetch k) h e = refuses 2 e (λ r. may-refuse-2 size s t _ r h refl)
-      by (list-words p k) h e = refuses 2 e (λ r. may-refuse-2 size s t _ r h refl)
-      by sweep h e = refuses 2 e (λ r. may-refuse-2 size s t _ r h refl)
+      by (ask k x) h e = refuses 2 e (may-refuse-2 size s t _ 0 h refl)
+      by (how-many x) h e = refuses 2 e (may-refuse-2 size s t _ 0 h refl)
+      by (fetch k) h e = refuses 3 (e ∙ none-under (st .registers .ledger .stands .head .root) (st .registers) (ready .counts .holds .0)) (may-fetch-none size s t k h (ready .counts .holds .1))
+      by (list-words p k) h e = refuses 2 e (may-refuse-2 size s t _ 0 h refl)
+      by sweep h e = refuses 2 e (may-refuse-2 size s t _ 0 h refl)
 
     by-reading : (x : Reading) → read-command t ≡ x → Goes n w s t
-    by-reading no-command q = refuses 1 (ap (begun-from (st .registers)) q) (λ r. may-refuse-1 size s t r q)
+    by-reading no-command q = refuses 1 (ap (begun-from (st .registers)) q) (may-refuse-1 size s t 0 q)
     by-reading (a-command c) q = by-command c q
 
-  obeys : Obeys (May noting size) after-stop own (Down size) (Up size)
+  obeys : Obeys (May finding size) after-stop own (Down size) (Up size)
   obeys n w s t (st, m, f, ready) stops = by-reading n w s t st m f ready (read-command t) refl
 
-  boots : Boots (May noting size) after-stop own (Down size) (Up size)
+  boots : Boots (May finding size) after-stop own (Down size) (Up size)
   unfolding own load
   boots n d s down =
       let fit : Fits (load (zeros cells)) = fits-load (zeros cells) (length-zeros cells) in
@@ -397,9 +416,9 @@ new-down size n low few =
     }
 
 -- WHOLE
-pub whole-noting : Whole noting own
+pub whole-finding : Whole finding own
 unfolding Whole
-whole-noting = (
+whole-finding = (
   steady,
-  λ size is low high few ok. right (May noting size) after-stop own (Down size) (Up size) (boots size low) (obeys size low) is false (new-world size) _ (new-down size (length is) low few) ok,
+  λ size is low high few ok. right (May finding size) after-stop own (Down size) (Up size) (boots size low) (obeys size low) is false (new-world size) _ (new-down size (length is) low few) ok,
 )

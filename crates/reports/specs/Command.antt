@@ -43,16 +43,16 @@ fits sweep = true
 abbrev pub none : Command → Bool
 none c = false
 
--- what is known so far: note
-abbrev pub noting : Command → Bool
-noting (put n t b) = false
-noting (remove n) = false
-noting note = true
-noting (ask k q) = false
-noting (how-many q) = false
-noting (fetch n) = false
-noting (list-words p k) = false
-noting sweep = false
+-- what is known so far: remove, note and fetch
+abbrev pub finding : Command → Bool
+finding (put n t b) = false
+finding (remove n) = true
+finding note = true
+finding (ask k q) = false
+finding (how-many q) = false
+finding (fetch n) = true
+finding (list-words p k) = false
+finding sweep = false
 
 -- the small core: asking and counting by words and "both", and keeping documents
 unfoldable pub core-query : Query → Bool

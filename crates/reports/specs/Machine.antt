@@ -82,14 +82,18 @@ page-told Heading r p = r
 page-told Settling r p = r
 page-told Finishing r p = r
 
+-- looking for a name under a root: where the root has no documents there is none of that name; what has some is not looked through yet
+abbrev pub missing : Root → Registers → Registers
+missing t r = pick (eqb (t .count) 0) (refusal-next 3 r) (refusal-next 2 r)
+
 -- A COMMAND begins, or is refused: 1, no command; 2, not known yet
 abbrev pub begun : Registers → Command → Registers
 begun r (put n t b) = refusal-next 2 r
-begun r (remove n) = refusal-next 2 r
+begun r (remove n) = missing (r .ledger .coming) r
 begun r note = at-phase Flushing r
 begun r (ask k q) = refusal-next 2 r
 begun r (how-many q) = refusal-next 2 r
-begun r (fetch n) = refusal-next 2 r
+begun r (fetch n) = missing (r .ledger .stands .head .root) r
 begun r (list-words p k) = refusal-next 2 r
 begun r sweep = refusal-next 2 r
 

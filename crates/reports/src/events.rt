@@ -1,7 +1,7 @@
 // What the machine is told, and what that does to its registers.
 ghost use mathlib.Core.Path.{_≡_};
 ghost use Rattle.reports.specs.Entry.{event-of};
-ghost use Rattle.reports.specs.Machine.{told, begun-from};
+ghost use Rattle.reports.specs.Machine.{told, begun-from, missing};
 ghost use Rattle.reports.specs.Reading.{read-command};
 ghost use Rattle.reports.specs.Stepping.{event-told};
 use crate::reader::Request;
@@ -10,6 +10,7 @@ use crate::registers::Phase;
 use crate::registers::Registers;
 use crate::starting::take_page;
 use crate::starting::wake;
+use pages::Root;
 
 // What the machine is told.
 #[derive(Clone, Copy)]
@@ -57,6 +58,19 @@ fn begin(registers: Registers, text: &[u8]) -> Registers
     };
     match request {
         Request::Note => registers.at(Phase::Flushing),
+        Request::Remove(_) => look_for(registers, registers.ledger.coming),
+        Request::Fetch(_) => look_for(registers, registers.ledger.stands.head.root),
         _ => registers.refusing(2),
+    }
+}
+
+// A root without documents has none of any name. One that has some is not looked through yet.
+fn look_for(registers: Registers, root: Root) -> Registers
+    ensures { λ r. ⌜ r ≡ missing root registers ⌝ }
+{
+    if root.count == 0 {
+        registers.refusing(3)
+    } else {
+        registers.refusing(2)
     }
 }

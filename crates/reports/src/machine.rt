@@ -4,7 +4,7 @@ ghost use mathlib.Core.List.{List};
 ghost use Prim.Native.Nat.{ℕ, _≤_};
 ghost use lib.ListN.{length};
 ghost use Rattle.pages.specs.Head.{head-page};
-ghost use Rattle.reports.specs.Command.{noting};
+ghost use Rattle.reports.specs.Command.{finding};
 ghost use Rattle.reports.specs.Entry.{Step-says, step-fits};
 ghost use Rattle.reports.specs.Machine.{own, next-head, other-page, committed};
 ghost use Rattle.reports.specs.Promise.{Whole};
@@ -93,7 +93,7 @@ fn run(registers: &mut Registers, out: &mut [u8]) -> Told
 // One step: takes what the world tells (0 power with the number of pages, 1 a command, 2 a page, 3 go on), and answers the next act.
 pub fn step(memory: &mut [u64], kind: u64, bytes: &[u8], out: &mut [u8]) -> Told
     ensures says { λ r. ⌜ Step-says (now (memory .entry)) kind (now (bytes .entry)) (now (out .entry)) (step-fits (now (memory .entry)) kind (now (bytes .entry)) (now (out .entry))) r (now (memory .exit)) (now (out .exit)) ⌝ }
-    ensures whole { λ _. ⌜ Whole noting own ⌝ }
+    ensures whole { λ _. ⌜ Whole finding own ⌝ }
 {
     if memory.len() != CELLS || kind > 3 || out.len() < ROW {
         return Told::No(0);
