@@ -6,6 +6,7 @@ pub mod Run
 pub mod Moves
 pub mod Registers
 pub mod Machine
+pub mod Layout
 pub mod Entry
 pub mod Stepping
 pub mod Promise
