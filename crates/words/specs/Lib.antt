@@ -1,1 +1,4 @@
 pub mod Words
+pub mod Stretches
+pub mod Laws
+pub mod Compared
