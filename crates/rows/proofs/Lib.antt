@@ -1,0 +1,3 @@
+pub mod Ordered
+pub mod Bytewise
+pub mod Read

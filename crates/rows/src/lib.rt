@@ -1,0 +1,11 @@
+// Sorted rows on pages: a key, a document and a place; how they lie on a page, how they are compared, read and written.
+mod laws;
+mod page;
+mod row;
+
+pub use laws::order_stands;
+pub use laws::pages_stand;
+pub use page::put_row;
+pub use page::row_at;
+pub use page::rows_end;
+pub use row::Row;
