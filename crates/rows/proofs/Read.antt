@@ -3,16 +3,17 @@ use mathlib.Core.Path.{_≡_, refl, sym, ap, subst, _∙_}
 use mathlib.Core.Bool.{Bool, true, false, _&&_}
 use mathlib.Core.List.{List, [], _∷_, _++_, append-assoc, append-nil}
 use mathlib.Core.Logic.{_⊎_, inl, inr, ⊎-elim}
-use Prim.Native.Nat.{ℕ, zero, suc, _+_, _*_, _-_, _^_, _≤_, _<_}
+use Prim.Native.Nat.{ℕ, zero, suc, _+_, _*_, _-_, _%_, _^_, _≤_, _<_}
 use native.Mathlib.Omega.{arith}
 use lib.Dec.{eqb, ltb, leb}
 use lib.ListN.{length, take, drop, getD, length-append, length-take, length-drop}
 use Rattle.std.specs.shelf.Lists.{All}
 use Rattle.std.specs.declared.option.Option.{Option}
 use Rattle.std.specs.declared.option.Option.the-variants.{Some, None}
-use Rattle.std.proofs.shelf.Tests.{cases-bool, and-parts, and-from, le-leb, lt-leb, leb-true, lt-ltb, ltb-true, eq-eqb}
+use Rattle.std.proofs.shelf.Tests.{cases-bool, and-parts, and-from, and-left, and-right, le-leb, lt-leb, leb-true, lt-ltb, ltb-true, eq-eqb}
 use Rattle.std.proofs.shelf.Elements.{all-append}
-use Rattle.std.proofs.shelf.Lists.{take-at, drop-at, drop-drop, drop-all, drop-append-le, take-append-le, take-take, drop-take, length-take-le}
+use Rattle.std.proofs.shelf.Lists.{take-at, drop-at, drop-drop, drop-all, drop-more, drop-append-le, take-append-le, take-append-drop, take-take, drop-take, length-take-le}
+use borrow.Rule.Slice.PartMut.{putMid}
 use Rattle.pages.specs.Lists.{pick, every, flat, zeros}
 use Rattle.pages.specs.Bytes.{in-bytes, all-bytes, from-eight}
 use Rattle.pages.specs.Device.{Page, a-page}
@@ -372,6 +373,113 @@ read-fits p at s h =
     let w = end-within p in
     let l : length (drop at (take (rows-end p) p)) ≡ rows-end p - at = simp (length-drop, length-take) (omega arith) in
     (b .0, a .1, omega (arith, b .1, a .1), w .0, w .1)
+
+-- ROWS IN CELLS. A list cut at the length of its key, the document and the place
+module _ (xs : List ℕ) (long : getD xs 0 0 + 7 ≤ length xs) where
+  abbrev n : ℕ
+  n = getD xs 0 0
+
+  abbrev keys : List ℕ
+  keys = take (n + 1 - 1) (drop 1 xs)
+
+  abbrev docs : List ℕ
+  docs = take (n + 5 - (n + 1)) (drop (n + 1) xs)
+
+  abbrev places : List ℕ
+  places = take (n + 7 - (n + 5)) (drop (n + 5) xs)
+
+  pub length-keys : length keys ≡ n
+  length-keys = length-take-le (n + 1 - 1) (drop 1 xs) (simp length-drop (omega arith)) ∙ omega arith
+
+  length-docs : length docs ≡ 4
+  length-docs = length-take-le (n + 5 - (n + 1)) (drop (n + 1) xs) (simp length-drop (omega arith)) ∙ omega arith
+
+  length-places : length places ≡ 2
+  length-places = length-take-le (n + 7 - (n + 5)) (drop (n + 5) xs) (simp length-drop (omega arith)) ∙ omega arith
+
+  rest-from : (a b c : ℕ) → b ≡ a + c → drop a xs ≡ take (b - a) (drop a xs) ++ drop b xs
+  rest-from a b c e =
+      sym (take-append-drop (b - a) (drop a xs)) ∙ ap (λ ys. take (b - a) (drop a xs) ++ ys) (drop-drop (b - a) a xs ∙ ap (λ m. drop m xs) (omega arith))
+
+  cut : xs ≡ length keys ∷ keys ++ (docs ++ (places ++ drop (n + 7) xs))
+  cut =
+      drop-more xs 0 0 (omega arith)
+      ∙ (λ i. sym length-keys i ∷ rest-from 1 (n + 1) n (omega arith) i)
+      ∙ ap (λ ys. length keys ∷ keys ++ ys) (rest-from (n + 1) (n + 5) 4 (omega arith) ∙ ap (λ ys. docs ++ ys) (rest-from (n + 5) (n + 7) 2 (omega arith)))
+
+  pub row-in-cells : n ≤ 64 → all-bytes keys ≡ true → all-bytes docs ≡ true → all-bytes places ≡ true →
+      row-in xs ≡ Some (record { key = keys; doc = from-eight 0 docs; place = from-eight 0 places })
+  row-in-cells s k d p = ap row-in cut ∙ row-in-parts keys docs places (drop (n + 7) xs) length-docs length-places (let e = length-keys in omega arith) k d p
+
+  no-row-in-cells : (all-bytes keys && (all-bytes docs && all-bytes places)) ≡ false → row-in xs ≡ None
+  no-row-in-cells h = ap row-in cut ∙ row-in-no-bytes keys docs places (drop (n + 7) xs) length-docs length-places h
+
+  pub no-row-by-key : all-bytes keys ≡ false → row-in xs ≡ None
+  no-row-by-key h = no-row-in-cells (and-left (all-bytes keys) (all-bytes docs && all-bytes places) h)
+
+  pub no-row-by-doc : all-bytes docs ≡ false → row-in xs ≡ None
+  no-row-by-doc h = no-row-in-cells (and-right (all-bytes keys) (all-bytes docs && all-bytes places) (and-left (all-bytes docs) (all-bytes places) h))
+
+  pub no-row-by-place : all-bytes places ≡ false → row-in xs ≡ None
+  no-row-by-place h = no-row-in-cells (and-right (all-bytes keys) (all-bytes docs && all-bytes places) (and-right (all-bytes docs) (all-bytes places) h))
+
+-- cells that are too few for any row, for their row, or whose key is too long
+pub row-in-few : (xs : List ℕ) → length xs < getD xs 0 0 + 7 → row-in xs ≡ None
+unfolding row-in
+row-in-few [] h = refl
+row-in-few (x ∷ xs) h = row-in-short x xs (omega arith)
+
+pub row-in-too-long : (xs : List ℕ) → 64 < getD xs 0 0 → row-in xs ≡ None
+row-in-too-long [] h = absurd (omega arith)
+row-in-too-long (x ∷ xs) h = row-in-long x xs h
+
+-- THE NEXT PART: after what is done, a part is written
+pub put-next : {A : Type 0} (xs done rest ys : List A) (a k : ℕ) → xs ≡ done ++ rest → length done ≡ a → putMid a k xs ys ≡ (done ++ ys) ++ drop k rest
+put-next xs done rest ys a k e l =
+    ap (λ zs. putMid a k zs ys) e ∙ (λ i. take-at done rest a l i ++ (ys ++ drop k (drop-at done rest a l i))) ∙ sym (append-assoc done ys (drop k rest))
+
+-- a number in as many bytes as there are
+pub width-is : (ys : List ℕ) (w n k : ℕ) → ys ≡ in-bytes w n [] → length ys ≡ k → ys ≡ in-bytes k n []
+width-is ys w n k e l = let h = ap length e ∙ length-in-bytes w n [] in let q : w ≡ k = omega arith in e ∙ ap (λ m. in-bytes m n []) q
+
+-- the parts of a row, one after the other
+pub row-of-parts : (r : Row) (ns ks ds ps : List ℕ) → length (r .key) ≤ 64 → ns ≡ in-bytes 1 (length (r .key)) [] → ks ≡ r .key → ds ≡ in-bytes 4 (r .doc) [] → ps ≡ in-bytes 2 (r .place) [] →
+    ((ns ++ ks) ++ ds) ++ ps ≡ row-bytes r
+unfolding in-bytes
+row-of-parts r ns ks ds ps s a b c d =
+    let e : length (r .key) % 256 ≡ length (r .key) = omega arith in
+    (λ i. ((a i ++ b i) ++ c i) ++ d i)
+    ∙ ap (λ m. (((m ∷ []) ++ r .key) ++ in-bytes 4 (r .doc) []) ++ in-bytes 2 (r .place) []) e
+    ∙ append-assoc (length (r .key) ∷ r .key) (in-bytes 4 (r .doc) []) (in-bytes 2 (r .place) [])
+    ∙ ap (λ ys. length (r .key) ∷ r .key ++ (in-bytes 4 (r .doc) [] ++ ys)) (sym (append-nil (in-bytes 2 (r .place) [])))
+    ∙ sym (row-parts r []) ∙ append-nil (row-bytes r)
+
+-- ROOM for a row, and the page with it
+pub no-room : (p : Page) (r : Row) → (2 ≤ rows-end p → rows-end p + row-size r ≤ 504 → rows-end p + row-size r ≤ length p → ⊥) → false ≡ room-for p r
+unfolding room-for
+no-room p r n =
+    ⊎-elim
+    (λ h.
+    let a = and-parts (leb 2 (rows-end p)) _ h in
+    let b = and-parts (leb (rows-end p + row-size r) 504) (leb (rows-end p + row-size r) (length p)) (a .1) in
+    absurd (n (leb-true _ _ (a .0)) (leb-true _ _ (b .0)) (leb-true _ _ (b .1))))
+    (λ h. sym h)
+    (cases-bool (leb 2 (rows-end p) && (leb (rows-end p + row-size r) 504 && leb (rows-end p + row-size r) (length p))))
+
+pub has-room : (p : Page) (r : Row) → 2 ≤ rows-end p → rows-end p + row-size r ≤ 504 → rows-end p + row-size r ≤ length p → true ≡ room-for p r
+unfolding room-for
+has-room p r a b c = sym (and-from _ _ (le-leb _ _ a) (and-from _ _ (le-leb _ _ b) (le-leb _ _ c)))
+
+pub row-put : (p : Page) (r : Row) (e k : ℕ) (bs ns : List ℕ) → e ≡ rows-end p → k ≡ row-size r → bs ≡ row-bytes r → ns ≡ in-bytes 2 (e + k - 2) [] → 2 ≤ e → e ≤ length p →
+    ns ++ drop 2 (putMid e k p bs) ≡ with-row p r
+unfolding with-row
+row-put p r e k bs ns is size b m two inside =
+    let i : 2 ≤ length (take e p) = simp length-take (omega arith) in
+    let n : e + k - 2 ≡ rows-end p - 2 + row-size r = omega arith in
+    (λ j. m j ++ (drop-append-le 2 (take e p) (bs ++ drop k (drop e p)) i) j)
+    ∙ ap (λ ys. in-bytes 2 (e + k - 2) [] ++ (drop 2 (take e p) ++ (bs ++ ys))) (drop-drop k e p)
+    ∙ sym (in-bytes-before 2 (e + k - 2) (drop 2 (take e p) ++ (bs ++ drop (e + k) p)))
+    ∙ (λ j. in-bytes 2 (n j) (drop 2 (take (is j) p) ++ (b j ++ drop (is j + size j) p)))
 
 pub page-laws : Pages-stand
 page-laws = record {

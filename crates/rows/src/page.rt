@@ -13,7 +13,8 @@ use crate::row::Row;
 
 // Where the rows of a page end: two bytes say how many bytes of rows follow. 0 if they say nothing that a page has room for.
 pub fn rows_end(page: &[u64]) -> usize
-    ensures { λ r. ⌜ r ≡ rows-end (now (page .entry)) ⌝ }
+    ensures end { λ r. ⌜ r ≡ rows-end (now (page .entry)) ⌝ }
+    ensures within { λ r. ⌜ r ≤ 504 ⌝ ∗ ⌜ r ≤ length (now (page .entry)) ⌝ }
 {
     if page.len() < 2 || page[0] > 255 || page[1] > 255 {
         return 0;

@@ -1,5 +1,6 @@
 // A row by value: its key in a fixed array, the document and the place.
 ghost use mathlib.Core.Path.{_≡_};
+ghost use Prim.Native.Nat.{_≤_};
 ghost use Rattle.words.specs.Compared.{Compared};
 ghost use Rattle.rows.specs.Rows.{row-size};
 ghost use Rattle.rows.specs.Orders.{Rows-compared};
@@ -26,7 +27,8 @@ impl Row {
 
     // How many bytes the row takes on a page.
     pub fn size(&self) -> usize
-        ensures { λ r. ⌜ r ≡ row-size (row-of (now (self .entry))) ⌝ }
+        ensures size { λ r. ⌜ r ≡ row-size (row-of (now (self .entry))) ⌝ }
+        ensures small { λ r. ⌜ 7 ≤ r ⌝ ∗ ⌜ r ≤ 71 ⌝ }
     {
         7 + self.len.min(64)
     }

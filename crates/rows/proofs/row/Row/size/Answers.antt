@@ -6,4 +6,6 @@ use lib.ListN.{length, length-take}
 use Rattle.rows.proofs.row.Row.size.Needs as need
 
 pub returns : need.returns
-returns c = let l : length (c .args .self .now .key) ≡ 64 = search needs in simp length-take (omega arith)
+returns c =
+    let l : length (c .args .self .now .key) ≡ 64 = search needs in
+    record { size = simp length-take (omega arith); small = (omega arith, omega arith) }
