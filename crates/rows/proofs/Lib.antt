@@ -1,3 +1,2 @@
 pub mod Ordered
-pub mod Bytewise
 pub mod Read

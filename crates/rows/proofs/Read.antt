@@ -23,7 +23,7 @@ use Rattle.pages.proofs.Lists.{every-append, every-take, every-drop}
 use Rattle.pages.proofs.Device.{length-zeros, zeros-bytes}
 use Rattle.rows.specs.Rows.{Row, Row-fits, Stand, row-bytes, row-size, rows-size, page-of, used, rows-end, begins, row-in, stand, row-at, and-then, rows-in, rows-of, room-for, with-row}
 use Rattle.rows.specs.Laws.{Pages-stand}
-use Rattle.rows.proofs.Bytewise.{flat-append, in-bytes-before, all-bytes-parts, from-eight-bound, drop-zeros, first-two}
+use Rattle.pages.proofs.Bytewise.{flat-append, in-bytes-before, all-bytes-parts, from-eight-bound, drop-zeros, first-two}
 
 -- THE BYTES of a row
 pub length-row : (r : Row) → length (row-bytes r) ≡ row-size r

@@ -7,7 +7,7 @@ use lib.ListN.{getD, length, take}
 use Rattle.std.proofs.shelf.Lists.{take-more, take-more-set, take-all}
 use Rattle.std.proofs.shelf.Tests.{false≢true}
 use Rattle.pages.specs.Bytes.{all-bytes}
-use Rattle.rows.proofs.Bytewise.{all-bytes-more, not-bytes}
+use Rattle.pages.proofs.Bytewise.{all-bytes-more, not-bytes}
 use Rattle.rows.proofs.page.copy_in.Needs as need
 
 pub loop-i-holds : need.loop-i-holds

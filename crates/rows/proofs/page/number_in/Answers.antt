@@ -8,7 +8,7 @@ use lib.ListN.{getD, length, take}
 use Rattle.std.proofs.shelf.Lists.{take-more, take-all}
 use Rattle.pages.specs.Bytes.{all-bytes, from-eight}
 use Rattle.pages.proofs.Bytes.{from-eight-push, from-eight-less}
-use Rattle.rows.proofs.Bytewise.{all-bytes-more, not-bytes}
+use Rattle.pages.proofs.Bytewise.{all-bytes-more, not-bytes}
 use Rattle.rows.proofs.page.number_in.Needs as need
 
 -- before the last of four bytes there is room for one more

@@ -6,13 +6,13 @@ use Prim.Native.Nat.{ℕ, zero, suc, _+_, _*_, _-_, _/_, _%_, _^_, _≤_, _<_}
 use native.Mathlib.Omega.{arith}
 use native.Mathlib.Nat.{pow-suc}
 use lib.Dec.{ltb}
-use lib.ListN.{length, take, drop, getD}
+use lib.ListN.{length, take, drop, getD, set}
 use Rattle.std.proofs.shelf.Tests.{and-parts, and-from, lt-ltb, le-ltb, ltb-true}
-use Rattle.std.proofs.shelf.Lists.{take-more}
+use Rattle.std.proofs.shelf.Lists.{take-more, take-more-set, take-all}
 use Rattle.pages.specs.Lists.{every, flat, zeros}
 use Rattle.pages.specs.Bytes.{in-bytes, all-bytes, from-eight}
 use Rattle.pages.proofs.Bytes.{length-in-bytes, from-eight-less}
 use Rattle.pages.proofs.Lists.{every-append}
 
 pub flat-append : {A B : Type 0} (f : A → List B) (xs ys : List A) → flat f (xs ++ ys) ≡ flat f xs ++ flat f ys
 flat-append f [] ys = refl
@@ -70,3 +70,20 @@ pub first-two : (xs : List ℕ) → 2 ≤ length xs → take 2 xs ≡ getD xs 0 
 first-two [] h = absurd (omega arith)
 first-two (x ∷ []) h = absurd (omega arith)
 first-two (x ∷ y ∷ xs) h = refl
+
+pub byte-at : (xs : List ℕ) (i : ℕ) → i < length xs → all-bytes xs ≡ true → getD xs i 0 < 256
+byte-at [] i h b = absurd (omega arith)
+byte-at (x ∷ xs) zero h b = ltb-true x 256 (and-parts (ltb x 256) (all-bytes xs) b .0)
+byte-at (x ∷ xs) (suc i) h b = byte-at xs i (omega arith) (and-parts (ltb x 256) (all-bytes xs) b .1)
+
+pub zeros-more : (n : ℕ) → zeros n ++ 0 ∷ [] ≡ zeros (n + 1)
+unfolding zeros
+zeros-more zero = refl
+zeros-more (suc n) = ap (λ xs. 0 ∷ xs) (zeros-more n) ∙ (let e : suc (n + 1) ≡ suc n + 1 = omega arith in ap zeros e)
+
+-- a list written over by another that is as long, one element after the other
+pub copied-more : (xs ys : List ℕ) (i : ℕ) → i < length xs → i < length ys → take i xs ≡ take i ys → take (i + 1) (set xs i (getD ys i 0)) ≡ take (i + 1) ys
+copied-more xs ys i h k e = take-more-set xs i (getD ys i 0) h ∙ ap (λ zs. zs ++ getD ys i 0 ∷ []) e ∙ sym (take-more ys i 0 k)
+
+pub copied-all : (xs ys : List ℕ) (i : ℕ) → length xs ≤ i → length ys ≤ i → take i xs ≡ take i ys → xs ≡ ys
+copied-all xs ys i h k e = sym (take-all i xs h) ∙ e ∙ take-all i ys k
