@@ -1,2 +1,4 @@
 pub mod Ordered
+pub mod Packed
 pub mod Read
+pub mod Sight

@@ -481,6 +481,10 @@ row-put p r e k bs ns is size b m two inside =
     ∙ sym (in-bytes-before 2 (e + k - 2) (drop 2 (take e p) ++ (bs ++ drop (e + k) p)))
     ∙ (λ j. in-bytes 2 (n j) (drop 2 (take (is j) p) ++ (b j ++ drop (is j + size j) p)))
 
+pub blank-page : page-of [] ≡ zeros 512
+unfolding page-of in-bytes zeros
+blank-page = refl
+
 pub page-laws : Pages-stand
 page-laws = record {
       a-page-it-is = page-is-a-page;
@@ -490,6 +494,7 @@ page-laws = record {
       none-past-the-end = λ rs f h at l. none-stands (page-of rs) at (let e = page-end rs h in omega arith);
       read-back = page-read-back;
       row-added = λ rs r f g h. (page-takes rs r h, page-with-row rs r h);
+      blank-has-none = blank-page;
       row-refused = λ rs r f. page-refuses rs r;
       what-is-read-fits = read-fits;
     }

@@ -9,6 +9,7 @@ use lib.ListN.{length, getD}
 use Rattle.std.specs.shelf.Lists.{All}
 use Rattle.pages.specs.Lists.{pick, flat, none-of}
 use Rattle.pages.specs.Device.{Page}
+use Rattle.rows.specs.declared.cursor.Cursor.{Cursor}
 use Rattle.rows.specs.Rows.{Row, Row-fits, rows-size, page-of, rows-end}
 
 -- the rows of one page: at least one, and they fit
@@ -25,11 +26,7 @@ pub record Cut-on (pages : ℕ → Page) (cut : List (List Row)) : Type 0 where
 abbrev pub together : List (List Row) → List Row
 together cut = flat (λ (rs : List Row). rs) cut
 
--- a page, counted from the first of the rows, and an offset on it
-pub record Cursor : Type 0 where
-  pub page : ℕ
-  pub at : ℕ
-
+-- a cursor is a page, counted from the first one of the rows, and an offset on it
 abbrev pub page-start : ℕ → Cursor
 page-start k = record { page = k; at = 2 }
 

@@ -3,12 +3,16 @@ use mathlib.Core.Bool.{Bool, true, false}
 use mathlib.Core.List.{List, [], _∷_, _++_}
 use mathlib.Core.Logic.{_⊎_}
 use mathlib.Core.Path.{_≡_}
-use Prim.Native.Nat.{ℕ, _+_, _≤_, _<_}
-use lib.ListN.{length}
+use Prim.Native.Nat.{ℕ, suc, _+_, _*_, _-_, _/_, _≤_, _<_}
+use lib.ListN.{length, getD}
 use Rattle.std.specs.shelf.Lists.{All}
 use Rattle.std.specs.declared.option.Option.{Option}
 use Rattle.std.specs.declared.option.Option.the-variants.{Some, None}
 use Rattle.pages.specs.Device.{Page, a-page}
+use Rattle.pages.specs.Lists.{zeros}
+use Rattle.rows.specs.declared.cursor.Cursor.{Cursor}
+use Rattle.rows.specs.Cursors.{Page-rows, Cut-on, together, page-start, passed, Sees}
+use Rattle.rows.specs.Packing.{closed, pack-from, pack, Packing}
 use Rattle.rows.specs.Rows.{Row, Row-fits, Stand, row-less, row-same, row-size, rows-size, page-of, rows-end, row-at, rows-of, room-for, with-row}
 
 -- the order of rows is a strict total order
@@ -29,5 +33,31 @@ pub record Pages-stand : Type 0 where
   pub read-back : (rs : List Row) → All Row-fits rs → rows-size rs ≤ 502 → rows-of (page-of rs) ≡ rs
   pub row-added : (rs : List Row) (r : Row) → All Row-fits rs → Row-fits r → rows-size rs + row-size r ≤ 502 →
       (room-for (page-of rs) r ≡ true) × (with-row (page-of rs) r ≡ page-of (rs ++ r ∷ []))
+  pub blank-has-none : page-of [] ≡ zeros 512
   pub row-refused : (rs : List Row) (r : Row) → All Row-fits rs → rows-size rs ≤ 502 → 502 < rows-size rs + row-size r → room-for (page-of rs) r ≡ false
   pub what-is-read-fits : (p : Page) (at : ℕ) (s : Stand) → row-at p at ≡ Some s → Row-fits (s .row) × (s .next ≡ at + row-size (s .row)) × (s .next ≤ rows-end p) × (rows-end p ≤ 504) × (rows-end p ≤ length p)
+
+-- A CURSOR SEES A LIST: at the start of a page what is on it and after it; the row under it is the first, past it it sees the others, and at the end none
+pub record Cursor-stands : Type 0 where
+  pub starts : (before after : List (List Row)) → All Page-rows (before ++ after) → Sees (before ++ after) (page-start (length before)) (together after)
+  pub reads : (pages : ℕ → Page) (cut : List (List Row)) (c : Cursor) (r : Row) (rs : List Row) → Cut-on pages cut → Sees cut c (r ∷ rs) →
+      (c .page < length cut) × (row-at (pages (c .page)) (c .at) ≡ Some (record { row = r; next = c .at + row-size r }))
+  pub goes-on : (pages : ℕ → Page) (cut : List (List Row)) (c : Cursor) (r : Row) (rs : List Row) → Cut-on pages cut → Sees cut c (r ∷ rs) →
+      Sees cut (passed (pages (c .page)) c (c .at + row-size r)) rs
+  pub ends : (cut : List (List Row)) (c : Cursor) → Sees cut c [] → c .page ≡ length cut
+  pub only-ends : (cut : List (List Row)) (c : Cursor) (rs : List Row) → Sees cut c rs → length cut ≤ c .page → rs ≡ []
+
+-- PACKING: the rows in order, on pages that each have some and fit, each but the last nearly full, so that there are few
+pub record Packing-stands : Type 0 where
+  pub in-order : (rs : List Row) → together (pack rs) ≡ rs
+  pub they-fit : (rs : List Row) → All Row-fits rs → All Page-rows (pack rs)
+  pub nearly-full : (rs : List Row) → All Row-fits rs → (i : ℕ) → suc i < length (pack rs) → 432 ≤ rows-size (getD (pack rs) i [])
+  pub few : (rs : List Row) → All Row-fits rs → length (pack rs) ≤ rows-size rs / 431 + 1
+  pub none-for-none : pack [] ≡ []
+  -- page by page: a row that fits goes onto the open page; before one that does not, the open page is written; in the end the open page is written if it has rows
+  pub begins : (all : List Row) → Packing [] [] all all
+  pub takes : (written : List (List Row)) (begun : List Row) (r : Row) (rest all : List Row) → Packing written begun (r ∷ rest) all → rows-size begun + row-size r ≤ 502 →
+      Packing written (begun ++ r ∷ []) rest all
+  pub closes : (written : List (List Row)) (begun : List Row) (r : Row) (rest all : List Row) → Packing written begun (r ∷ rest) all → row-size r ≤ 502 → 502 < rows-size begun + row-size r →
+      Packing (written ++ begun ∷ []) [] (r ∷ rest) all
+  pub ends : (written : List (List Row)) (begun : List Row) (all : List Row) → Packing written begun [] all → written ++ closed begun ≡ pack all

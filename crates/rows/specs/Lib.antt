@@ -1,4 +1,6 @@
 pub mod Rows
 pub mod Views
 pub mod Orders
+pub mod Cursors
+pub mod Packing
 pub mod Laws

@@ -13,12 +13,12 @@ closed (r ∷ rs) = (r ∷ rs) ∷ []
 
 -- the pages of what is on the open page and of the rows to come
 unfoldable pub pack-from : List Row → List Row → List (List Row)
-pack-from open [] = closed open
-pack-from open (r ∷ rs) = pick (leb (rows-size open + row-size r) 502) (pack-from (open ++ r ∷ []) rs) (open ∷ pack-from (r ∷ []) rs)
+pack-from begun [] = closed begun
+pack-from begun (r ∷ rs) = pick (leb (rows-size begun + row-size r) 502) (pack-from (begun ++ r ∷ []) rs) (begun ∷ pack-from (r ∷ []) rs)
 
 abbrev pub pack : List Row → List (List Row)
 pack rs = pack-from [] rs
 
 -- pages written so far, rows on the open page, and rows to come: together they give the pages of all rows
 abbrev pub Packing : List (List Row) → List Row → List Row → List Row → Type 0
-Packing written open rest all = written ++ pack-from open rest ≡ pack all
+Packing written begun rest all = written ++ pack-from begun rest ≡ pack all
