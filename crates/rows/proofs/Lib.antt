@@ -1,3 +1,5 @@
+pub mod Found
+pub mod Merged
 pub mod Ordered
 pub mod Packed
 pub mod Read

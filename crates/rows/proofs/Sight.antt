@@ -126,5 +126,8 @@ only-ends cut c rs s h =
     (λ o. let l = ap length (o .cut-is) ∙ length-append (o .before) ((o .done ++ o .row ∷ o .left) ∷ o .after) in let p = o .page-is in absurd (omega arith))
     (λ e. e .no-rows) s
 
+pub has-row : (cut : List (List Row)) (c : Cursor) (rs : List Row) → Sees cut c rs → c .page < length cut → (r : Row) × (left : List Row) × (rs ≡ r ∷ left)
+has-row cut c rs s h = ⊎-elim (λ o. (o .row, o .left ++ together (o .after), o .rows-are)) (λ e. let p = e .page-is in absurd (omega arith)) s
+
 pub cursor-laws : Cursor-stands
-cursor-laws = record { starts = page-starts; reads = reads; goes-on = goes-on; ends = ends; only-ends = only-ends }
+cursor-laws = record { starts = page-starts; reads = reads; goes-on = goes-on; has-row = has-row; ends = ends; only-ends = only-ends }

@@ -3,7 +3,7 @@ use mathlib.Core.Bool.{Bool, true, false}
 use mathlib.Core.List.{List, [], _∷_, _++_}
 use mathlib.Core.Logic.{_⊎_}
 use mathlib.Core.Path.{_≡_}
-use Prim.Native.Nat.{ℕ, suc, _+_, _*_, _-_, _/_, _≤_, _<_}
+use Prim.Native.Nat.{ℕ, suc, _+_, _*_, _-_, _/_, _^_, _≤_, _<_}
 use lib.ListN.{length, getD}
 use Rattle.std.specs.shelf.Lists.{All}
 use Rattle.std.specs.declared.option.Option.{Option}
@@ -12,6 +12,11 @@ use Rattle.pages.specs.Device.{Page, a-page}
 use Rattle.pages.specs.Lists.{zeros}
 use Rattle.rows.specs.declared.cursor.Cursor.{Cursor}
 use Rattle.rows.specs.Cursors.{Page-rows, Cut-on, together, page-start, passed, Sees}
+use Rattle.pages.specs.Lists.{earlier}
+use Rattle.pages.proofs.Perm.{Perm}
+use Rattle.rows.specs.declared.search.Search.{Search}
+use Rattle.rows.specs.Searching.{from-key, middle, narrowed, Between, located}
+use Rattle.rows.specs.Merging.{Rising, Least, least, merge-all}
 use Rattle.rows.specs.Packing.{closed, pack-from, pack, Packing}
 use Rattle.rows.specs.Rows.{Row, Row-fits, Stand, row-less, row-same, row-size, rows-size, page-of, rows-end, row-at, rows-of, room-for, with-row}
 
@@ -44,6 +49,7 @@ pub record Cursor-stands : Type 0 where
       (c .page < length cut) × (row-at (pages (c .page)) (c .at) ≡ Some (record { row = r; next = c .at + row-size r }))
   pub goes-on : (pages : ℕ → Page) (cut : List (List Row)) (c : Cursor) (r : Row) (rs : List Row) → Cut-on pages cut → Sees cut c (r ∷ rs) →
       Sees cut (passed (pages (c .page)) c (c .at + row-size r)) rs
+  pub has-row : (cut : List (List Row)) (c : Cursor) (rs : List Row) → Sees cut c rs → c .page < length cut → (r : Row) × (left : List Row) × (rs ≡ r ∷ left)
   pub ends : (cut : List (List Row)) (c : Cursor) → Sees cut c [] → c .page ≡ length cut
   pub only-ends : (cut : List (List Row)) (c : Cursor) (rs : List Row) → Sees cut c rs → length cut ≤ c .page → rs ≡ []
 
@@ -61,3 +67,29 @@ pub record Packing-stands : Type 0 where
   pub closes : (written : List (List Row)) (begun : List Row) (r : Row) (rest all : List Row) → Packing written begun (r ∷ rest) all → row-size r ≤ 502 → 502 < rows-size begun + row-size r →
       Packing (written ++ begun ∷ []) [] (r ∷ rest) all
   pub ends : (written : List (List Row)) (begun : List Row) (all : List Row) → Packing written begun [] all → written ++ closed begun ≡ pack all
+
+-- SEARCH: half of the pages is left by each step; at the end a cursor sees the rows from the first one on whose key is not earlier
+pub record Search-stands : Type 0 where
+  pub meant : (k : List ℕ) (rs : List Row) → Rising rs →
+      (before : List Row) × (rs ≡ before ++ from-key k rs) × All (λ r. earlier (r .key) k ≡ true) before × All (λ r. earlier (r .key) k ≡ false) (from-key k rs)
+  pub begins : (cut : List (List Row)) (k : List ℕ) → Between cut k (record { lo = 0; hi = length cut })
+  pub narrows : (pages : ℕ → Page) (cut : List (List Row)) (k : List ℕ) (s : Search) → Cut-on pages cut → Rising (together cut) → Between cut k s → s .lo < s .hi →
+      Between cut k (narrowed k (pages (middle s)) s)
+  pub halves : (p : Page) (k : List ℕ) (s : Search) (n : ℕ) → s .lo < s .hi → s .hi - s .lo < 2 ^ suc n → narrowed k p s .hi - narrowed k p s .lo < 2 ^ n
+  pub at-first : (cut : List (List Row)) (k : List ℕ) (s : Search) → All Page-rows cut → Between cut k s → s .lo ≡ 0 → s .hi ≡ 0 → Sees cut (page-start 0) (from-key k (together cut))
+  pub on-page-before : (cut : List (List Row)) (k : List ℕ) (s : Search) (m : ℕ) → All Page-rows cut → Rising (together cut) → Between cut k s → s .lo ≡ suc m →
+      (rest : List Row) × Sees cut (page-start m) rest × (from-key k (together cut) ≡ from-key k rest)
+  pub goes-further : (pages : ℕ → Page) (cut : List (List Row)) (k : List ℕ) (c : Cursor) (r : Row) (rs : List Row) → Cut-on pages cut → Sees cut c (r ∷ rs) →
+      from-key k (together cut) ≡ from-key k (r ∷ rs) → located k (pages (c .page)) c .ended ≡ false →
+      (located k (pages (c .page)) c .cursor .page ≡ c .page) × Sees cut (located k (pages (c .page)) c .cursor) rs × (from-key k (together cut) ≡ from-key k rs)
+  pub finds : (pages : ℕ → Page) (cut : List (List Row)) (k : List ℕ) (s : Search) (c : Cursor) (r : Row) (rs : List Row) → Cut-on pages cut → Between cut k s → s .lo ≡ s .hi →
+      s .lo ≡ suc (c .page) → Sees cut c (r ∷ rs) → from-key k (together cut) ≡ from-key k (r ∷ rs) → located k (pages (c .page)) c .ended ≡ true →
+      Sees cut (located k (pages (c .page)) c .cursor) (from-key k (together cut))
+
+-- MERGING: one step takes the least row; of sorted lists without a row in common the merge is the sorted list of all their rows
+pub record Merging-stands : Type 0 where
+  pub steps : (ls : List (List Row)) (m : Least) → least ls ≡ Some m → All Rising ls → merge-all ls ≡ m .row ∷ merge-all (m .rest)
+  pub rises : (ls : List (List Row)) (m : Least) → least ls ≡ Some m → All Rising ls → All Rising (m .rest)
+  pub ends : (ls : List (List Row)) → least ls ≡ None → All Rising ls → (together ls ≡ []) × (merge-all ls ≡ [])
+  pub keeps-all : (ls : List (List Row)) → All Rising ls → Perm (together ls) (merge-all ls)
+  pub is-sorted : (ls : List (List Row)) (all : List Row) → All Rising ls → Rising all → Perm (together ls) all → merge-all ls ≡ all

@@ -3,4 +3,6 @@ pub mod Views
 pub mod Orders
 pub mod Cursors
 pub mod Packing
+pub mod Searching
+pub mod Merging
 pub mod Laws

@@ -1,5 +1,5 @@
 // The laws of rows, each on the contract of a function.
-ghost use Rattle.rows.specs.Laws.{Order-stands, Pages-stand, Cursor-stands, Packing-stands};
+ghost use Rattle.rows.specs.Laws.{Order-stands, Pages-stand, Cursor-stands, Packing-stands, Search-stands, Merging-stands};
 
 // The order of rows is a strict total order.
 pub fn order_stands() -> u8
@@ -25,6 +25,20 @@ pub fn cursor_stands() -> u8
 // Packing keeps the rows and their order, fills the pages, and is done page by page.
 pub fn packing_stands() -> u8
     ensures { λ _. ⌜ Packing-stands ⌝ }
+{
+    0
+}
+
+// The search halves the pages with each step, and its end is the first row whose key is not earlier than the key.
+pub fn search_stands() -> u8
+    ensures { λ _. ⌜ Search-stands ⌝ }
+{
+    0
+}
+
+// The merge of sorted lists is the sorted list of all their rows.
+pub fn merging_stands() -> u8
+    ensures { λ _. ⌜ Merging-stands ⌝ }
 {
     0
 }
