@@ -63,9 +63,11 @@ from-here k [] h = refl
 from-here k (r ∷ rs) h = simp h
 
 none-earlier : (k : List ℕ) (r : Row) (rs : List Row) → Rising (r ∷ rs) → earlier (r .key) k ≡ false → All (λ q. earlier (q .key) k ≡ false) (r ∷ rs)
-none-earlier k r rs h n =
-    (n, all-weaker _ (λ (q : Row). earlier (q .key) k ≡ false)
-    (λ q l. ⊎-elim (λ e. absurd (both-ways _ n (key-sinks k r q l e))) (λ e. e) (cases-bool (earlier (q .key) k))) rs (h .0))
+none-earlier k r rs h n = (
+  n,
+  all-weaker _ (λ (q : Row). earlier (q .key) k ≡ false)
+      (λ q l. ⊎-elim (λ e. absurd (both-ways _ n (key-sinks k r q l e))) (λ e. e) (cases-bool (earlier (q .key) k))) rs (h .0),
+)
 
 abbrev Meant : List ℕ → List Row → List Row → Type 0
 Meant k rs from = (before : List Row) × (rs ≡ before ++ from) × All (λ r. earlier (r .key) k ≡ true) before × All (λ r. earlier (r .key) k ≡ false) from
@@ -141,7 +143,7 @@ search-narrows pages cut k s on h b l =
       inside = omega arith;
       below = b .below;
       above = λ i q r.
-      ⊎-elim (λ t. absurd (both-ways _ (sym first ∙ e) (firsts-rise k cut (on .whole) h m i q t in-cut))) (λ t. t) (cases-bool (first-before k (getD cut i [])));
+          ⊎-elim (λ t. absurd (both-ways _ (sym first ∙ e) (firsts-rise k cut (on .whole) h m i q t in-cut))) (λ t. t) (cases-bool (first-before k (getD cut i [])));
     }))
     (cases-bool (key-before k (row-at (pages m) 2)))
 
@@ -169,11 +171,10 @@ search-on-page cut k s m w h b e =
     let q = first-of k (getD cut m []) (b .below m (omega arith)) in
     let head : together back ≡ q .0 ∷ q .1 ++ together (drop (m + 1) cut) = ap together (drop-more cut m [] in-cut) ∙ ap (λ xs. xs ++ together (drop (m + 1) cut)) (q .2) in
     let less = pairwise-across (λ (x y : Row). row-less x y ≡ true) (together front) (q .0) (q .1 ++ together (drop (m + 1) cut))
-    (subst Rising (rows ∙ ap (λ xs. together front ++ xs) head) h) in
-    (
+    (subst Rising (rows ∙ ap (λ xs. together front ++ xs) head) h) in (
       together back,
       subst (λ (n : ℕ). Sees cut (page-start n) (together back)) (length-take-le m cut (omega arith))
-      (subst (λ (x : List (List Row)). Sees x (page-start (length front)) (together back)) whole sees),
+          (subst (λ (x : List (List Row)). Sees x (page-start (length front)) (together back)) whole sees),
       ap (from-key k) rows ∙ from-past k (together front) (together back) (all-weaker _ (λ (x : Row). earlier (x .key) k ≡ true) (λ x l. key-sinks k x (q .0) l (q .3)) (together front) less),
     )
 
@@ -202,8 +203,7 @@ module _ (pages : ℕ → Page) (cut : List (List Row)) (k : List ℕ) (c : Curs
       (λ e.
       let l = located-past e in
       let less : next < rows-end p = leb-false (rows-end p) next (sym (ap (λ (x : Located). x .ended) l) ∙ f) in
-      let at : passed p c next ≡ record { page = c .page; at = next } = simp (lt-ltb next (rows-end p) less) in
-      (
+      let at : passed p c next ≡ record { page = c .page; at = next } = simp (lt-ltb next (rows-end p) less) in (
         ap (λ (x : Located). x .cursor .page) l ∙ ap (λ (x : Cursor). x .page) at,
         subst (λ (x : Located). Sees cut (x .cursor) rs) (sym l) (goes-on pages cut c r rs on sees),
         past e,
@@ -249,12 +249,12 @@ search-finds pages cut k s c r rs on b done at sees same f =
 
 pub search-laws : Search-stands
 search-laws = record {
-      meant = from-meant;
-      begins = λ cut k. record { ordered = omega arith; inside = omega arith; below = λ i h. absurd (omega arith); above = λ i h l. absurd (omega arith) };
-      narrows = search-narrows;
-      halves = search-halves;
-      at-first = search-at-first;
-      on-page-before = search-on-page;
-      goes-further = search-further;
-      finds = search-finds;
-    }
+  meant = from-meant;
+  begins = λ cut k. record { ordered = omega arith; inside = omega arith; below = λ i h. absurd (omega arith); above = λ i h l. absurd (omega arith) };
+  narrows = search-narrows;
+  halves = search-halves;
+  at-first = search-at-first;
+  on-page-before = search-on-page;
+  goes-further = search-further;
+  finds = search-finds;
+}

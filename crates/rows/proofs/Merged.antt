@@ -26,9 +26,9 @@ not-less : (a b c : Row) → row-less a b ≡ false → row-less b c ≡ false �
 not-less a b c p q =
     ⊎-elim
     (λ h. absurd
-        (⊎-elim (λ l. both-ways _ q l)
-        (λ o. ⊎-elim (λ e. both-ways _ p (subst (λ (x : Row). row-less a x ≡ true) (sym e) h)) (λ l. both-ways _ p (less-transitive a c b h l)) o)
-        (less-cases b c)))
+    (⊎-elim (λ l. both-ways _ q l)
+    (λ o. ⊎-elim (λ e. both-ways _ p (subst (λ (x : Row). row-less a x ≡ true) (sym e) h)) (λ l. both-ways _ p (less-transitive a c b h l)) o)
+    (less-cases b c)))
     (λ h. h)
     (cases-bool (row-less a c))
 
@@ -68,8 +68,10 @@ first-picks r rs ls (Some m) s a h =
     subst (λ (b : Bool). Picks ((r ∷ rs) ∷ ls) (pick b (Some mine) (Some its))) (sym e)
     (record {
       same = then (perm-after (r ∷ rs) (h .same)) (perm-middle (r ∷ rs) (m .row) (together (m .rest)));
-      low = (less-one-way (m .row) r e,
-        all-append _ rs (together (m .rest)) (all-weaker _ (λ (q : Row). row-less q (m .row) ≡ false) (λ q l. less-one-way (m .row) q (less-transitive (m .row) r q e l)) rs (s .0)) (h .low));
+      low = (
+        less-one-way (m .row) r e,
+        all-append _ rs (together (m .rest)) (all-weaker _ (λ (q : Row). row-less q (m .row) ≡ false) (λ q l. less-one-way (m .row) q (less-transitive (m .row) r q e l)) rs (s .0)) (h .low),
+      );
       rising = (s, h .rising);
     }))
     (λ e.
@@ -77,7 +79,7 @@ first-picks r rs ls (Some m) s a h =
     (record {
       same = perm-refl (r ∷ rs ++ together ls);
       low = all-append _ rs (together ls) (none-after r rs (s .0))
-      (perm-all (λ q. row-less q r ≡ false) (perm-sym (h .same)) (e, all-weaker _ (λ (q : Row). row-less q r ≡ false) (λ q l. not-less q (m .row) r l e) (together (m .rest)) (h .low)));
+          (perm-all (λ q. row-less q r ≡ false) (perm-sym (h .same)) (e, all-weaker _ (λ (q : Row). row-less q r ≡ false) (λ q l. not-less q (m .row) r l e) (together (m .rest)) (h .low)));
       rising = (s .1, a);
     }))
     (cases-bool (row-less (m .row) r))
@@ -121,8 +123,7 @@ merged-rises-by n f ih perm ls None h d l = tt
 merged-rises-by n f ih perm ls (Some m) h d l =
     let e = perm-length (h .same) in
     let u = perm-pairwise (λ (a b : Row). a ≡ b → ⊥) (λ a b k q. k (sym q)) (h .same) d in
-    let small : length (together (m .rest)) ≤ n = omega arith in
-    (
+    let small : length (together (m .rest)) ≤ n = omega arith in (
       perm-all (λ q. row-less (m .row) q ≡ true) (perm (m .rest) (h .rising) small) (above (m .row) (together (m .rest)) (h .low) (u .0)),
       ih (m .rest) (h .rising) (u .1) small,
     )

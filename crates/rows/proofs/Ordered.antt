@@ -44,8 +44,8 @@ less-parts a b h =
     inr (
       same-is _ _ (t .0),
       ⊎-elim (λ d. inl (ltb-true _ _ d))
-      (λ d. let q = and-parts (eqb (a .doc) (b .doc)) (ltb (a .place) (b .place)) (subst (λ (x : Bool). pick x true late ≡ true) d (t .1)) in inr (eqb-true _ _ (q .0), ltb-true _ _ (q .1)))
-      (cases-bool (ltb (a .doc) (b .doc))),
+          (λ d. let q = and-parts (eqb (a .doc) (b .doc)) (ltb (a .place) (b .place)) (subst (λ (x : Bool). pick x true late ≡ true) d (t .1)) in inr (eqb-true _ _ (q .0), ltb-true _ _ (q .1)))
+          (cases-bool (ltb (a .doc) (b .doc))),
     ))
     (cases-bool (earlier (a .key) (b .key)))
 
@@ -58,9 +58,11 @@ less-transitive a b c p q =
     (⊎-elim
     (λ h. ⊎-elim (λ k. inl (earlier-transitive _ _ _ h k)) (λ k. inl (subst L (k .0) h)) (less-parts b c q))
     (λ h. ⊎-elim (λ k. inl (subst K (sym (h .0)) k))
-        (λ k. inr (h .0 ∙ k .0,
-          ⊎-elim (λ d. inl (⊎-elim (λ e. omega arith) (λ e. omega arith) (k .1))) (λ d. ⊎-elim (λ e. inl (omega arith)) (λ e. inr (omega arith, omega arith)) (k .1)) (h .1)))
-        (less-parts b c q))
+    (λ k. inr (
+      h .0 ∙ k .0,
+      ⊎-elim (λ d. inl (⊎-elim (λ e. omega arith) (λ e. omega arith) (k .1))) (λ d. ⊎-elim (λ e. inl (omega arith)) (λ e. inr (omega arith, omega arith)) (k .1)) (h .1),
+    ))
+    (less-parts b c q))
     (less-parts a b p))
 
 pub less-cases : (a b : Row) → (row-less a b ≡ true) ⊎ ((a ≡ b) ⊎ (row-less b a ≡ true))
@@ -68,11 +70,11 @@ less-cases a b =
     ⊎-elim (λ h. inl (less-from a b (inl h)))
     (λ o. ⊎-elim
     (λ k. ⊎-elim
-        (λ d. ⊎-elim (λ p. inr (inl (row-ext a b k d p)))
-            (λ o. ⊎-elim (λ p. inl (less-from a b (inr (k, inr (d, p))))) (λ p. inr (inr (less-from b a (inr (sym k, inr (sym d, p)))))) o)
-            (cases-order (a .place) (b .place)))
-        (λ o. ⊎-elim (λ d. inl (less-from a b (inr (k, inl d)))) (λ d. inr (inr (less-from b a (inr (sym k, inl d))))) o)
-        (cases-order (a .doc) (b .doc)))
+    (λ d. ⊎-elim (λ p. inr (inl (row-ext a b k d p)))
+    (λ o. ⊎-elim (λ p. inl (less-from a b (inr (k, inr (d, p))))) (λ p. inr (inr (less-from b a (inr (sym k, inr (sym d, p)))))) o)
+    (cases-order (a .place) (b .place)))
+    (λ o. ⊎-elim (λ d. inl (less-from a b (inr (k, inl d)))) (λ d. inr (inr (less-from b a (inr (sym k, inl d))))) o)
+    (cases-order (a .doc) (b .doc)))
     (λ h. inr (inr (less-from b a (inl h)))) o)
     (earlier-cases (a .key) (b .key))
 
@@ -80,7 +82,7 @@ pub less-irreflexive : (a : Row) → row-less a a ≡ false
 less-irreflexive a =
     ⊎-elim
     (λ h. absurd
-        (⊎-elim (λ e. both-ways _ (earlier-irreflexive (a .key)) e) (λ e. ⊎-elim (λ d. omega arith) (λ d. omega arith) (e .1)) (less-parts a a h)))
+    (⊎-elim (λ e. both-ways _ (earlier-irreflexive (a .key)) e) (λ e. ⊎-elim (λ d. omega arith) (λ d. omega arith) (e .1)) (less-parts a a h)))
     (λ h. h)
     (cases-bool (row-less a a))
 
@@ -108,12 +110,12 @@ more-not-same a b p =
 
 pub order-laws : Order-stands
 order-laws = record {
-      never-before-itself = less-irreflexive;
-      transitive = less-transitive;
-      one-of-three = less-cases;
-      same-is-equal = row-same-is;
-      equal-is-same = row-same-from;
-    }
+  never-before-itself = less-irreflexive;
+  transitive = less-transitive;
+  one-of-three = less-cases;
+  same-is-equal = row-same-is;
+  equal-is-same = row-same-from;
+}
 
 -- ANSWERS of a comparison
 pub rows-less : (a b : Row) → row-less a b ≡ true → Rows-compared Less a b

@@ -128,13 +128,13 @@ packing-ends written begun all p = p
 pub packing-laws : Packing-stands
 unfolding pack-from
 packing-laws = record {
-      in-order = pack-in-order [];
-      they-fit = λ rs g. pack-fits [] rs tt g (omega arith);
-      nearly-full = λ rs g. full-at (pack rs) (pack-full [] rs g);
-      few = pack-few;
-      none-for-none = refl;
-      begins = λ all. refl;
-      takes = packing-takes;
-      closes = packing-closes;
-      ends = packing-ends;
-    }
+  in-order = pack-in-order [];
+  they-fit = λ rs g. pack-fits [] rs tt g (omega arith);
+  nearly-full = λ rs g. full-at (pack rs) (pack-full [] rs g);
+  few = pack-few;
+  none-for-none = refl;
+  begins = λ all. refl;
+  takes = packing-takes;
+  closes = packing-closes;
+  ends = packing-ends;
+}

@@ -487,14 +487,14 @@ blank-page = refl
 
 pub page-laws : Pages-stand
 page-laws = record {
-      a-page-it-is = page-is-a-page;
-      ends = λ rs f h. page-end rs h;
-      each-stands = λ before r after f h.
+  a-page-it-is = page-is-a-page;
+  ends = λ rs f h. page-end rs h;
+  each-stands = λ before r after f h.
       row-stands before r after (all-last Row-fits before r after f) h ∙ ap (λ n. Some (record { row = r; next = n })) (let e = size-push before r in omega arith);
-      none-past-the-end = λ rs f h at l. none-stands (page-of rs) at (let e = page-end rs h in omega arith);
-      read-back = page-read-back;
-      row-added = λ rs r f g h. (page-takes rs r h, page-with-row rs r h);
-      blank-has-none = blank-page;
-      row-refused = λ rs r f. page-refuses rs r;
-      what-is-read-fits = read-fits;
-    }
+  none-past-the-end = λ rs f h at l. none-stands (page-of rs) at (let e = page-end rs h in omega arith);
+  read-back = page-read-back;
+  row-added = λ rs r f g h. (page-takes rs r h, page-with-row rs r h);
+  blank-has-none = blank-page;
+  row-refused = λ rs r f. page-refuses rs r;
+  what-is-read-fits = read-fits;
+}

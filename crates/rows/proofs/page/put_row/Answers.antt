@@ -18,12 +18,12 @@ returns-then-end-lt2 c =
     let s = c .size .ensures .size in
     record {
       fits = no-room (c .args .page .now) (row-of (c .args .row .now))
-      (λ two small inside.
-      elim (c .then-end-lt2 .came) [
-        | then-end-lt2·by·then-end-lt2 w ↦ omega (arith, w .if-end-lt2 .taken)
-        | then-end-lt2·by·else-end-lt2·then-next-gt504 w ↦ omega (arith, w .if-next-gt504 .taken)
-        | then-end-lt2·by·else-end-lt2·else-next-gt504·then-next-page w ↦ omega (arith, w .if-next-page .taken)
-      ]);
+          (λ two small inside.
+          elim (c .then-end-lt2 .came) [
+            | then-end-lt2·by·then-end-lt2 w ↦ omega (arith, w .if-end-lt2 .taken)
+            | then-end-lt2·by·else-end-lt2·then-next-gt504 w ↦ omega (arith, w .if-next-gt504 .taken)
+            | then-end-lt2·by·else-end-lt2·else-next-gt504·then-next-page w ↦ omega (arith, w .if-next-page .taken)
+          ]);
       page = refl;
     }
 
@@ -38,5 +38,5 @@ returns c =
     record {
       fits = has-room (c .args .page .now) (row-of (c .args .row .now)) (omega arith) (omega arith) (omega arith);
       page = row-put (c .args .page .now) (row-of (c .args .row .now)) end (end + size - end) (c .put-bytes .last .cells) (c .put-number .last .cells) e k (c .put-bytes .ensures)
-      (width-is (c .put-number .last .cells) _ _ 2 (c .put-number .ensures) l ∙ ap (λ m. in-bytes 2 m []) (omega arith)) (omega arith) (omega arith);
+          (width-is (c .put-number .last .cells) _ _ 2 (c .put-number .ensures) l ∙ ap (λ m. in-bytes 2 m []) (omega arith)) (omega arith) (omega arith);
     }

@@ -38,8 +38,7 @@ returns c =
     let d = c .in-Continue-doc .ensures tt in
     let p = c .in-Continue-place .ensures tt in
     let k = c .if-not-copy-in .ensures tt in
-    let key = ap (λ m. take m (c .copy-in .last .key)) (sym (length-keys xs h)) ∙ k .key refl in
-    (
+    let key = ap (λ m. take m (c .copy-in .last .key)) (sym (length-keys xs h)) ∙ k .key refl in (
       row-in-cells xs h (omega arith) (sym (k .bytes)) (d .0) (p .0) ∙ (λ i. Some (record { key = sym key i; doc = sym (d .1) i; place = sym (p .1) i })),
       omega arith,
     )
