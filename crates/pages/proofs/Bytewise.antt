@@ -2,17 +2,18 @@
 use mathlib.Core.Path.{_≡_, refl, sym, ap, subst, _∙_}
 use mathlib.Core.Bool.{Bool, true, false, _&&_}
 use mathlib.Core.List.{List, [], _∷_, _++_, append-assoc, append-nil}
+use mathlib.Core.Logic.{⊎-elim}
 use Prim.Native.Nat.{ℕ, zero, suc, _+_, _*_, _-_, _/_, _%_, _^_, _≤_, _<_}
 use native.Mathlib.Omega.{arith}
 use native.Mathlib.Nat.{pow-suc}
 use lib.Dec.{ltb}
 use lib.ListN.{length, take, drop, getD, set}
-use Rattle.std.proofs.shelf.Tests.{and-parts, and-from, lt-ltb, le-ltb, ltb-true}
+use Rattle.std.proofs.shelf.Tests.{and-parts, true≢false, lt-ltb, le-ltb, ltb-true}
 use Rattle.std.proofs.shelf.Lists.{take-more, take-more-set, take-all}
-use Rattle.pages.specs.Lists.{every, flat, zeros}
+use Rattle.pages.specs.Lists.{flat, zeros, earlier}
 use Rattle.pages.specs.Bytes.{in-bytes, all-bytes, from-eight}
-use Rattle.pages.proofs.Bytes.{length-in-bytes, from-eight-less}
-use Rattle.pages.proofs.Lists.{every-append}
+use Rattle.pages.proofs.Bytes.{from-eight-less}
+use Rattle.pages.proofs.Lists.{every-append, earlier-parts}
 
 pub flat-append : {A B : Type 0} (f : A → List B) (xs ys : List A) → flat f (xs ++ ys) ≡ flat f xs ++ flat f ys
 flat-append f [] ys = refl
@@ -87,3 +88,37 @@ copied-more xs ys i h k e = take-more-set xs i (getD ys i 0) h ∙ ap (λ zs. zs
 
 pub copied-all : (xs ys : List ℕ) (i : ℕ) → length xs ≤ i → length ys ≤ i → take i xs ≡ take i ys → xs ≡ ys
 copied-all xs ys i h k e = sym (take-all i xs h) ∙ e ∙ take-all i ys k
+
+-- BYTES AS NUMBERS: of two rows of bytes that are as long, the earlier one spells the lower number
+from-eight-over : (xs ys : List ℕ) (a b : ℕ) → length xs ≡ length ys → all-bytes xs ≡ true → a < b → from-eight a xs < from-eight b ys
+unfolding from-eight
+from-eight-over [] [] a b l h m = m
+from-eight-over [] (y ∷ ys) a b l h m = absurd (omega arith)
+from-eight-over (x ∷ xs) [] a b l h m = absurd (omega arith)
+from-eight-over (x ∷ xs) (y ∷ ys) a b l h m =
+    let t = and-parts (ltb x 256) (all-bytes xs) h in
+    let s : x < 256 = ltb-true x 256 (t .0) in
+    from-eight-over xs ys (256 * a + x) (256 * b + y) (omega arith) (t .1) (omega arith)
+
+pub earlier-lower : (xs ys : List ℕ) (a : ℕ) → length xs ≡ length ys → all-bytes xs ≡ true → earlier xs ys ≡ true → from-eight a xs < from-eight a ys
+unfolding from-eight earlier
+earlier-lower [] [] a l h e = absurd (true≢false (sym e))
+earlier-lower [] (y ∷ ys) a l h e = absurd (omega arith)
+earlier-lower (x ∷ xs) [] a l h e = absurd (omega arith)
+earlier-lower (x ∷ xs) (y ∷ ys) a l h e =
+    let t = and-parts (ltb x 256) (all-bytes xs) h in
+    ⊎-elim (λ m. from-eight-over xs ys (256 * a + x) (256 * a + y) (omega arith) (t .1) (omega arith))
+    (λ m. subst (λ (z : ℕ). from-eight (256 * a + x) xs < from-eight (256 * a + z) ys) (m .0) (earlier-lower xs ys (256 * a + x) (omega arith) (t .1) (m .1)))
+    (earlier-parts x y xs ys e)
+
+pub from-eight-append : (xs ys : List ℕ) (a : ℕ) → from-eight a (xs ++ ys) ≡ from-eight (from-eight a xs) ys
+unfolding from-eight
+from-eight-append [] ys a = refl
+from-eight-append (x ∷ xs) ys a = from-eight-append xs ys (256 * a + x)
+
+pub from-two : (xs : List ℕ) (a : ℕ) → length xs ≡ 2 → from-eight a xs ≡ 65536 * a + from-eight 0 xs
+unfolding from-eight
+from-two [] a l = absurd (omega arith)
+from-two (x ∷ []) a l = absurd (omega arith)
+from-two (x ∷ y ∷ []) a l = omega arith
+from-two (x ∷ y ∷ z ∷ xs) a l = absurd (omega arith)

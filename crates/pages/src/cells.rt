@@ -3,22 +3,27 @@ ghost use mathlib.Core.Path.{_≡_};
 ghost use mathlib.Core.Bool.{_&&_};
 ghost use lib.Dec.{eqb};
 ghost use lib.ListN.{length};
+ghost use Rattle.pages.specs.Bytes.{all-bytes};
 ghost use Rattle.pages.specs.Lists.{pick, zeros};
 ghost use Rattle.pages.specs.Device.{a-page};
 
-// Whether cells hold a page: 512 of them, each a byte.
-pub fn is_page(cells: &[u64]) -> bool
-    ensures { λ r. ⌜ r ≡ a-page (now (cells .entry)) ⌝ }
+// Whether each cell holds a byte.
+pub fn hold_bytes(cells: &[u64]) -> bool
+    ensures { λ r. ⌜ r ≡ all-bytes (now (cells .entry)) ⌝ }
 {
-    if cells.len() != 512 {
-        return false;
-    }
     for i in 0..cells.len() {
         if cells[i] > 255 {
             return false;
         }
     }
     true
+}
+
+// Whether cells hold a page: 512 of them, each a byte.
+pub fn is_page(cells: &[u64]) -> bool
+    ensures { λ r. ⌜ r ≡ a-page (now (cells .entry)) ⌝ }
+{
+    cells.len() == 512 && hold_bytes(cells)
 }
 
 // Takes a page into 512 cells. If the bytes are no page, or there are not 512 cells, it says false and leaves all as it is.

@@ -4,6 +4,7 @@ mod numbers;
 
 pub use cells::clear;
 pub use cells::give_page;
+pub use cells::hold_bytes;
 pub use cells::is_page;
 pub use cells::take_page;
 pub use numbers::are_bytes;

@@ -1,11 +1,13 @@
 // Sorted rows on pages: a key, a document and a place; how they lie on a page, how they are compared, read and written.
 mod cursor;
+mod inplace;
 mod laws;
 mod page;
 mod row;
 mod search;
 
 pub use cursor::Cursor;
+pub use inplace::compare_at;
 pub use laws::cursor_stands;
 pub use laws::merging_stands;
 pub use laws::order_stands;

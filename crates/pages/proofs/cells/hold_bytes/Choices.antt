@@ -2,7 +2,7 @@ use mathlib.Core.Path.{_≡_}
 use mathlib.Core.Bool.{true}
 use lib.ListN.{take}
 use Rattle.pages.specs.Bytes.{all-bytes}
-use Rattle.pages.proofs.cells.is_page.Given as given
+use Rattle.pages.proofs.cells.hold_bytes.Given as given
 
 -- the cells so far are bytes
 abbrev pub Inv-loop-i : given.InvT-loop-i
