@@ -4,3 +4,4 @@ pub mod Ordered
 pub mod Packed
 pub mod Read
 pub mod Sight
+pub mod Stand

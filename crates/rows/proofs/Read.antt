@@ -106,7 +106,7 @@ row-in-short n bs h =
     elim (leb n 64) as (λ t. pick (t && (leb (n + 6) (length bs) && all-bytes (take (n + 6) bs))) it None ≡ None) [ true ↦ simp e | false ↦ refl ]
 
 -- bytes of a part of bytes
-part : (a k n : ℕ) (bs : List ℕ) → a + k ≤ n → all-bytes (take n bs) ≡ true → all-bytes (take k (drop a bs)) ≡ true
+pub part : (a k n : ℕ) (bs : List ℕ) → a + k ≤ n → all-bytes (take n bs) ≡ true → all-bytes (take k (drop a bs)) ≡ true
 part a k n bs h w =
     let e : take k (drop a (take n bs)) ≡ take k (drop a bs) = ap (λ m. take k (drop a (take m bs))) (omega arith) ∙ ap (take k) (drop-take a (n - a) bs) ∙ take-take k (n - a) (drop a bs) (omega arith) in
     subst (λ (xs : List ℕ). all-bytes xs ≡ true) e (every-take (λ c. ltb c 256) k (drop a (take n bs)) (every-drop (λ c. ltb c 256) a (take n bs) w))
@@ -388,13 +388,16 @@ module _ (xs : List ℕ) (long : getD xs 0 0 + 7 ≤ length xs) where
   abbrev places : List ℕ
   places = take (n + 7 - (n + 5)) (drop (n + 5) xs)
 
+  abbrev pub row-here : Row
+  row-here = record { key = keys; doc = from-eight 0 docs; place = from-eight 0 places }
+
   pub length-keys : length keys ≡ n
   length-keys = length-take-le (n + 1 - 1) (drop 1 xs) (simp length-drop (omega arith)) ∙ omega arith
 
-  length-docs : length docs ≡ 4
+  pub length-docs : length docs ≡ 4
   length-docs = length-take-le (n + 5 - (n + 1)) (drop (n + 1) xs) (simp length-drop (omega arith)) ∙ omega arith
 
-  length-places : length places ≡ 2
+  pub length-places : length places ≡ 2
   length-places = length-take-le (n + 7 - (n + 5)) (drop (n + 5) xs) (simp length-drop (omega arith)) ∙ omega arith
 
   rest-from : (a b c : ℕ) → b ≡ a + c → drop a xs ≡ take (b - a) (drop a xs) ++ drop b xs
@@ -406,6 +409,15 @@ module _ (xs : List ℕ) (long : getD xs 0 0 + 7 ≤ length xs) where
       drop-more xs 0 0 (omega arith)
       ∙ (λ i. sym length-keys i ∷ rest-from 1 (n + 1) n (omega arith) i)
       ∙ ap (λ ys. length keys ∷ keys ++ ys) (rest-from (n + 1) (n + 5) 4 (omega arith) ∙ ap (λ ys. docs ++ ys) (rest-from (n + 5) (n + 7) 2 (omega arith)))
+
+  -- document and place together
+  pub tail-is : take (n + 7 - (n + 1)) (drop (n + 1) xs) ≡ docs ++ places
+  tail-is =
+      let l = length-docs in
+      let m = length-places in
+      ap (take (n + 7 - (n + 1)))
+      (rest-from (n + 1) (n + 5) 4 (omega arith) ∙ ap (λ ys. docs ++ ys) (rest-from (n + 5) (n + 7) 2 (omega arith)) ∙ sym (append-assoc docs places (drop (n + 7) xs)))
+      ∙ take-at (docs ++ places) (drop (n + 7) xs) (n + 7 - (n + 1)) (length-append docs places ∙ omega arith)
 
   pub row-in-cells : n ≤ 64 → all-bytes keys ≡ true → all-bytes docs ≡ true → all-bytes places ≡ true →
       row-in xs ≡ Some (record { key = keys; doc = from-eight 0 docs; place = from-eight 0 places })
