@@ -2,15 +2,13 @@
 use mathlib.Core.Path.{_≡_, refl, sym, ap, subst, _∙_}
 use mathlib.Core.Bool.{Bool, true, false}
 use mathlib.Core.List.{List, [], _∷_, _++_}
-use mathlib.Core.Logic.{_⊎_, inl, inr, ⊎-elim}
-use Prim.Native.Nat.{ℕ, zero, suc, _+_, _-_, _*_, _/_, _^_, _≤_, _<_}
+use mathlib.Core.Logic.{⊎-elim}
+use Prim.Native.Nat.{ℕ, zero, suc, _+_, _-_, _*_, _^_, _≤_, _<_}
 use native.Mathlib.Omega.{arith}
 use native.Mathlib.Nat.{pow-suc}
-use lib.Dec.{ltb, leb}
+use lib.Dec.{leb}
 use lib.ListN.{length, getD, take, drop, length-append}
 use Rattle.std.specs.shelf.Lists.{All}
-use Rattle.std.specs.declared.option.Option.{Option}
-use Rattle.std.specs.declared.option.Option.the-variants.{Some, None}
 use Rattle.std.proofs.shelf.Lists.{take-append-drop, length-take-le, drop-more, getD-at, nil-from-length}
 use Rattle.std.proofs.shelf.Elements.{all-weaker, all-getD}
 use Rattle.std.proofs.shelf.Tests.{cases-bool, cases-lt, true≢false, both-ways, lt-ltb, le-ltb, leb-true, leb-false}
@@ -21,13 +19,13 @@ use Rattle.pages.proofs.Lists.{earlier-transitive}
 use Rattle.pages.proofs.Sorted.{Pairwise}
 use Rattle.rows.specs.declared.cursor.Cursor.{Cursor}
 use Rattle.rows.specs.declared.search.Search.{Search}
-use Rattle.rows.specs.Rows.{Row, Row-fits, Stand, row-less, row-size, rows-size, page-of, rows-end, row-at}
-use Rattle.rows.specs.Cursors.{Page-rows, Cut-on, together, page-start, passed, On, At-end, Sees}
+use Rattle.rows.specs.Rows.{Row, row-less, row-size, page-of, rows-end, row-at}
+use Rattle.rows.specs.Cursors.{Page-rows, Cut-on, together, page-start, passed, Sees}
 use Rattle.rows.specs.Searching.{from-key, key-before, first-before, middle, narrowed, Between, Located, located-at, located}
 use Rattle.rows.specs.Merging.{Rising}
 use Rattle.rows.specs.Laws.{Search-stands}
 use Rattle.rows.proofs.Ordered.{less-parts}
-use Rattle.rows.proofs.Read.{row-stands, all-last, rows-at-least}
+use Rattle.rows.proofs.Read.{row-stands, rows-at-least}
 use Rattle.rows.proofs.Sight.{page-starts, reads, goes-on}
 
 -- parts of what holds of all, and of pairs

@@ -1,9 +1,9 @@
 -- Laws of merging. Assumes nothing.
 use mathlib.Core.Path.{_≡_, refl, sym, ap, subst, _∙_}
 use mathlib.Core.Bool.{Bool, true, false}
-use mathlib.Core.List.{List, [], _∷_, _++_, append-nil}
-use mathlib.Core.Logic.{_⊎_, inl, inr, ⊎-elim}
-use Prim.Native.Nat.{ℕ, zero, suc, _+_, _≤_}
+use mathlib.Core.List.{List, [], _∷_, _++_}
+use mathlib.Core.Logic.{⊎-elim}
+use Prim.Native.Nat.{ℕ, zero, suc, _≤_}
 use native.Mathlib.Omega.{arith}
 use lib.ListN.{length}
 use Rattle.std.specs.shelf.Lists.{All}
@@ -14,7 +14,7 @@ use Rattle.std.proofs.shelf.Elements.{all-append, all-weaker}
 use Rattle.std.proofs.shelf.Tests.{cases-bool, both-ways}
 use Rattle.pages.specs.Lists.{pick}
 use Rattle.pages.proofs.Perm.{Perm, none, keep, then, perm-refl, perm-sym, perm-after, perm-middle, perm-length, perm-all}
-use Rattle.pages.proofs.Sorted.{Pairwise, Different, pairwise-weaker, perm-pairwise, sorted-perm}
+use Rattle.pages.proofs.Sorted.{Different, pairwise-weaker, perm-pairwise, sorted-perm}
 use Rattle.rows.specs.Rows.{Row, row-less}
 use Rattle.rows.specs.Cursors.{together}
 use Rattle.rows.specs.Merging.{Rising, Least, after-none, or-first, least, least-then, merged, merge-all}

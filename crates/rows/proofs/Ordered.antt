@@ -7,7 +7,7 @@ use Prim.Native.Nat.{ℕ, _<_}
 use native.Mathlib.Omega.{arith}
 use lib.Dec.{eqb, ltb}
 use Rattle.std.proofs.shelf.Tests.{cases-bool, cases-order, and-parts, both-ways, ltb-true, eqb-true, lt-ltb, le-ltb, eq-eqb}
-use Rattle.std.specs.Orderings.{Ranked, isLt, isEq, isGt}
+use Rattle.std.specs.Orderings.{Ranked}
 use Rattle.std.specs.declared.cmp.Ordering.{Ordering}
 use Rattle.std.specs.declared.cmp.Ordering.the-variants.{Less, Equal, Greater}
 use Rattle.pages.specs.Lists.{pick, same, earlier}

@@ -1,16 +1,13 @@
 -- Laws of packing. Assumes nothing.
 use mathlib.Core.Path.{_≡_, refl, sym, ap, subst, _∙_}
-use mathlib.Core.Bool.{Bool, true, false}
-use mathlib.Core.List.{List, [], _∷_, _++_, append-assoc, append-nil}
+use mathlib.Core.List.{List, [], _∷_, _++_, append-assoc}
 use mathlib.Core.Logic.{⊎-elim}
-use Prim.Native.Nat.{ℕ, zero, suc, _+_, _*_, _-_, _/_, _≤_, _<_}
+use Prim.Native.Nat.{ℕ, zero, suc, _+_, _*_, _/_, _≤_, _<_}
 use native.Mathlib.Omega.{arith}
-use lib.Dec.{leb}
 use lib.ListN.{length, getD}
 use Rattle.std.specs.shelf.Lists.{All}
 use Rattle.std.proofs.shelf.Elements.{all-push}
 use Rattle.std.proofs.shelf.Tests.{cases-lt, le-leb, lt-leb}
-use Rattle.pages.specs.Lists.{pick, none-of, added-up}
 use Rattle.pages.proofs.Folds.{added-up-append}
 use Rattle.rows.specs.Rows.{Row, Row-fits, row-size, rows-size}
 use Rattle.rows.specs.Cursors.{Page-rows, together}

@@ -2,19 +2,18 @@
 use mathlib.Core.Path.{_≡_, refl, sym, ap, subst, _∙_}
 use mathlib.Core.Bool.{Bool, true, false, _&&_}
 use mathlib.Core.List.{List, [], _∷_, _++_, append-assoc, append-nil}
-use mathlib.Core.Logic.{_⊎_, inl, inr, ⊎-elim}
+use mathlib.Core.Logic.{⊎-elim}
 use Prim.Native.Nat.{ℕ, zero, suc, _+_, _*_, _-_, _%_, _^_, _≤_, _<_}
 use native.Mathlib.Omega.{arith}
-use lib.Dec.{eqb, ltb, leb}
+use lib.Dec.{ltb, leb}
 use lib.ListN.{length, take, drop, getD, length-append, length-take, length-drop}
 use Rattle.std.specs.shelf.Lists.{All}
 use Rattle.std.specs.declared.option.Option.{Option}
 use Rattle.std.specs.declared.option.Option.the-variants.{Some, None}
 use Rattle.std.proofs.shelf.Tests.{cases-bool, and-parts, and-from, and-left, and-right, le-leb, lt-leb, leb-true, lt-ltb, ltb-true, eq-eqb}
-use Rattle.std.proofs.shelf.Elements.{all-append}
-use Rattle.std.proofs.shelf.Lists.{take-at, drop-at, drop-drop, drop-all, drop-more, drop-append-le, take-append-le, take-append-drop, take-take, drop-take, length-take-le}
+use Rattle.std.proofs.shelf.Lists.{take-at, drop-at, drop-drop, drop-all, drop-more, drop-append-le, take-append-drop, take-take, drop-take, length-take-le}
 use borrow.Rule.Slice.PartMut.{putMid}
-use Rattle.pages.specs.Lists.{pick, every, flat, zeros}
+use Rattle.pages.specs.Lists.{pick, flat, zeros}
 use Rattle.pages.specs.Bytes.{in-bytes, all-bytes, from-eight}
 use Rattle.pages.specs.Device.{Page, a-page}
 use Rattle.pages.proofs.Bytes.{length-in-bytes, in-bytes-bytes, from-in-bytes}

@@ -1,22 +1,19 @@
 -- Laws of a cursor: it sees a list. Assumes nothing.
 use mathlib.Core.Path.{_≡_, refl, sym, ap, subst, _∙_}
-use mathlib.Core.Bool.{Bool, true, false}
 use mathlib.Core.List.{List, [], _∷_, _++_, append-assoc, append-nil}
-use mathlib.Core.Logic.{_⊎_, inl, inr, ⊎-elim}
-use Prim.Native.Nat.{ℕ, zero, suc, _+_, _≤_, _<_}
+use mathlib.Core.Logic.{inl, inr, ⊎-elim}
+use Prim.Native.Nat.{ℕ, suc, _+_, _≤_, _<_}
 use native.Mathlib.Omega.{arith}
-use lib.Dec.{ltb}
 use lib.ListN.{length, getD, length-append}
 use Rattle.std.specs.shelf.Lists.{All}
-use Rattle.std.specs.declared.option.Option.the-variants.{Some, None}
+use Rattle.std.specs.declared.option.Option.the-variants.{Some}
 use Rattle.std.proofs.shelf.Lists.{getD-at}
 use Rattle.std.proofs.shelf.Tests.{true≢false, lt-ltb, le-ltb}
-use Rattle.pages.specs.Lists.{pick, flat, none-of}
 use Rattle.pages.specs.Device.{Page}
 use Rattle.pages.proofs.Folds.{added-up-append}
 use Rattle.rows.specs.declared.cursor.Cursor.{Cursor}
 use Rattle.rows.specs.Rows.{Row, Row-fits, row-size, rows-size, page-of, rows-end, row-at}
-use Rattle.rows.specs.Cursors.{Page-rows, Cut-on, together, page-start, passed, On, At-end, Sees}
+use Rattle.rows.specs.Cursors.{Page-rows, Cut-on, together, page-start, passed, On, Sees}
 use Rattle.rows.specs.Laws.{Cursor-stands}
 use Rattle.rows.proofs.Read.{page-end, row-stands, all-last, size-push}
 

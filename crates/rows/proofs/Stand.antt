@@ -3,7 +3,7 @@ use mathlib.Core.Path.{_≡_, refl, sym, ap, subst, _∙_}
 use mathlib.Core.Bool.{Bool, true, false, _&&_}
 use mathlib.Core.List.{List, [], _∷_, _++_}
 use mathlib.Core.Logic.{_⊎_, inl, inr, ⊎-elim}
-use Prim.Native.Nat.{ℕ, suc, _+_, _*_, _-_, _≤_, _<_, _^_}
+use Prim.Native.Nat.{ℕ, _+_, _*_, _-_, _≤_, _<_, _^_}
 use native.Mathlib.Omega.{arith}
 use lib.Dec.{leb, ltb}
 use lib.ListN.{length, getD, take, drop, length-take, length-drop, length-append}
@@ -13,16 +13,16 @@ use Rattle.std.specs.declared.option.Option.{Option}
 use Rattle.std.specs.declared.option.Option.the-variants.{Some, None}
 use Rattle.std.proofs.shelf.Lists.{getD-take, getD-drop, take-take, drop-take, drop-drop}
 use Rattle.std.proofs.shelf.Parts.{between-is}
-use Rattle.std.proofs.shelf.Tests.{and-parts, cases-order}
+use Rattle.std.proofs.shelf.Tests.{cases-order}
 use Rattle.pages.specs.Lists.{pick, earlier}
 use Rattle.pages.specs.Bytes.{all-bytes, from-eight}
-use Rattle.pages.proofs.Bytewise.{from-eight-bound, from-eight-append, from-two, earlier-lower, all-bytes-parts}
+use Rattle.pages.proofs.Bytewise.{from-eight-bound, from-eight-append, from-two, earlier-lower}
 use Rattle.pages.proofs.Lists.{same-is, every-append}
 use Rattle.words.specs.Compared.{Compared}
-use Rattle.rows.specs.Rows.{Row, Stand, row-less, row-size, rows-end, row-in, stand, row-at}
+use Rattle.rows.specs.Rows.{Row, row-size, rows-end, row-in, stand, row-at}
 use Rattle.rows.specs.Orders.{Rows-compared, Standing}
-use Rattle.rows.proofs.Ordered.{row-ext, less-from, rows-less, rows-more, rows-equal, rows-by-key}
-use Rattle.rows.proofs.Read.{part, row-here, row-in-cells, row-in-few, row-in-too-long, length-keys, length-docs, length-places, tail-is}
+use Rattle.rows.proofs.Ordered.{row-ext, less-from, rows-less, rows-more, rows-equal}
+use Rattle.rows.proofs.Read.{part, row-here, row-in-cells, row-in-few, row-in-too-long}
 
 -- the row that the part from the offset to the end begins with
 pub stands : (p : List ℕ) (at e : ℕ) → e ≡ rows-end p → row-at p at ≡ stand at (row-in (take (e - at) (drop at p)))

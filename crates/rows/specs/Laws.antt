@@ -1,12 +1,11 @@
 -- The laws of rows as statements. Assumes nothing: these are definitions.
-use mathlib.Core.Bool.{Bool, true, false}
+use mathlib.Core.Bool.{true, false}
 use mathlib.Core.List.{List, [], _∷_, _++_}
 use mathlib.Core.Logic.{_⊎_}
 use mathlib.Core.Path.{_≡_}
-use Prim.Native.Nat.{ℕ, suc, _+_, _*_, _-_, _/_, _^_, _≤_, _<_}
+use Prim.Native.Nat.{ℕ, suc, _+_, _-_, _/_, _^_, _≤_, _<_}
 use lib.ListN.{length, getD}
 use Rattle.std.specs.shelf.Lists.{All}
-use Rattle.std.specs.declared.option.Option.{Option}
 use Rattle.std.specs.declared.option.Option.the-variants.{Some, None}
 use Rattle.pages.specs.Device.{Page, a-page}
 use Rattle.pages.specs.Lists.{zeros}
@@ -17,7 +16,7 @@ use Rattle.pages.proofs.Perm.{Perm}
 use Rattle.rows.specs.declared.search.Search.{Search}
 use Rattle.rows.specs.Searching.{from-key, middle, narrowed, Between, located}
 use Rattle.rows.specs.Merging.{Rising, Least, least, merge-all}
-use Rattle.rows.specs.Packing.{closed, pack-from, pack, Packing}
+use Rattle.rows.specs.Packing.{closed, pack, Packing}
 use Rattle.rows.specs.Rows.{Row, Row-fits, Stand, row-less, row-same, row-size, rows-size, page-of, rows-end, row-at, rows-of, room-for, with-row}
 
 -- the order of rows is a strict total order

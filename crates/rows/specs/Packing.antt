@@ -1,7 +1,7 @@
 -- Rows packed into pages: a page is closed when the next row does not fit. Assumes nothing: these are definitions.
 use mathlib.Core.List.{List, [], _∷_, _++_}
 use mathlib.Core.Path.{_≡_}
-use Prim.Native.Nat.{ℕ, _+_}
+use Prim.Native.Nat.{_+_}
 use lib.Dec.{leb}
 use Rattle.pages.specs.Lists.{pick}
 use Rattle.rows.specs.Rows.{Row, row-size, rows-size}

@@ -1,6 +1,5 @@
 -- A row as the code keeps it: the first `len` bytes of a fixed array are its key. Assumes nothing: these are definitions.
 use mathlib.Core.Path.{_≡_}
-use mathlib.Core.List.{List}
 use Prim.Native.Nat.{ℕ, _≤_}
 use lib.ListN.{take}
 use Rattle.std.specs.declared.option.Option.{Option}

@@ -1,11 +1,11 @@
-use mathlib.Core.Path.{_≡_, refl, sym, ap, subst, _∙_}
-use mathlib.Core.List.{List, []}
-use Prim.Native.Nat.{ℕ, _+_, _-_, _≤_, _<_}
+use mathlib.Core.Path.{_≡_, refl, ap, _∙_}
+use mathlib.Core.List.{[]}
+use Prim.Native.Nat.{_+_, _-_}
 use native.Mathlib.Omega.{arith}
 use borrow.Author.Needs.{needs}
 use lib.ListN.{length}
 use Rattle.std.proofs.shelf.Lists.{places}
-use Rattle.rows.specs.Rows.{row-size, rows-end}
+use Rattle.rows.specs.Rows.{row-size}
 use Rattle.rows.specs.Views.{row-of}
 use Rattle.pages.specs.Bytes.{in-bytes}
 use Rattle.rows.proofs.Read.{no-room, has-room, row-put, width-is}

@@ -1,9 +1,8 @@
-use mathlib.Core.Path.{_≡_, refl, sym, ap, subst, _∙_}
-use mathlib.Core.Bool.{Bool, true, false, _&&_}
-use Prim.Native.Nat.{ℕ, _+_, _≤_, _<_}
+use mathlib.Core.Path.{refl, sym, ap, _∙_}
+use Prim.Native.Nat.{_+_, _≤_}
 use native.Mathlib.Omega.{arith}
 use lib.ListN.{getD, length, take}
-use Rattle.std.specs.declared.option.Option.the-variants.{Some, None}
+use Rattle.std.specs.declared.option.Option.the-variants.{Some}
 use Rattle.rows.proofs.Read.{row-in-cells, no-row-by-key, no-row-by-doc, no-row-by-place, row-in-few, row-in-too-long, length-keys}
 use Rattle.rows.proofs.page.row_in.Needs as need
 use Rattle.rows.proofs.page.row_in.Needs.{then-cells-lt7·by·then-cells-lt7, then-cells-lt7·by·else-cells-lt7·then-cells-gt64}
