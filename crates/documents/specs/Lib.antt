@@ -1,1 +1,3 @@
 pub mod Document
+pub mod Pages
+pub mod Room

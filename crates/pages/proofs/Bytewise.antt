@@ -3,7 +3,7 @@ use mathlib.Core.Path.{_≡_, refl, sym, ap, subst, _∙_}
 use mathlib.Core.Bool.{Bool, true, false, _&&_}
 use mathlib.Core.List.{List, [], _∷_, _++_, append-assoc}
 use mathlib.Core.Logic.{⊎-elim}
-use Prim.Native.Nat.{ℕ, zero, suc, _+_, _*_, _-_, _/_, _%_, _^_, _≤_, _<_}
+use Prim.Native.Nat.{ℕ, zero, suc, _+_, _*_, _-_, _/_, _%_, _≤_, _<_}
 use native.Mathlib.Omega.{arith}
 use lib.Dec.{ltb}
 use lib.ListN.{length, take, drop, getD, set}
@@ -11,8 +11,7 @@ use Rattle.std.proofs.shelf.Tests.{and-parts, true≢false, lt-ltb, le-ltb, ltb
 use Rattle.std.proofs.shelf.Lists.{take-more, take-more-set, take-all}
 use Rattle.pages.specs.Lists.{flat, zeros, earlier}
 use Rattle.pages.specs.Bytes.{in-bytes, all-bytes, from-eight}
-use Rattle.pages.proofs.Bytes.{from-eight-less}
-use Rattle.pages.proofs.Lists.{every-append, earlier-parts}
+use Rattle.pages.proofs.Lists.{every-join, earlier-parts}
 
 pub flat-append : {A B : Type 0} (f : A → List B) (xs ys : List A) → flat f (xs ++ ys) ≡ flat f xs ++ flat f ys
 flat-append f [] ys = refl
@@ -31,7 +30,7 @@ in-bytes-before k n cs = in-bytes-append k n [] cs
 pub all-bytes-more : (xs : List ℕ) (i : ℕ) → i < length xs → getD xs i 0 < 256 → all-bytes (take i xs) ≡ true → all-bytes (take (i + 1) xs) ≡ true
 all-bytes-more xs i h b a =
     let one : all-bytes (getD xs i 0 ∷ []) ≡ true = simp (lt-ltb (getD xs i 0) 256 b) in
-    subst (λ (ys : List ℕ). all-bytes ys ≡ true) (sym (take-more xs i 0 h)) (every-append (λ c. ltb c 256) (take i xs) (getD xs i 0 ∷ []) a one)
+    subst (λ (ys : List ℕ). all-bytes ys ≡ true) (sym (take-more xs i 0 h)) (every-join (λ c. ltb c 256) (take i xs) (getD xs i 0 ∷ []) a one)
 
 never : (t : Bool) → (t && false) ≡ false
 never true = refl
@@ -41,24 +40,6 @@ pub not-bytes : (xs : List ℕ) (i : ℕ) → i < length xs → 255 < getD xs i 
 not-bytes [] i h b = absurd (omega arith)
 not-bytes (x ∷ xs) zero h b = simp (le-ltb x 256 (omega arith))
 not-bytes (x ∷ xs) (suc i) h b = ap (λ t. ltb x 256 && t) (not-bytes xs i (omega arith) b) ∙ never (ltb x 256)
-
--- bytes one after the other
-and-assoc : (a b c : Bool) → ((a && b) && c) ≡ (a && (b && c))
-and-assoc true b c = refl
-and-assoc false b c = refl
-
-pub all-bytes-parts : (xs ys : List ℕ) → all-bytes (xs ++ ys) ≡ (all-bytes xs && all-bytes ys)
-all-bytes-parts [] ys = refl
-all-bytes-parts (x ∷ xs) ys = ap (λ t. ltb x 256 && t) (all-bytes-parts xs ys) ∙ sym (and-assoc (ltb x 256) (all-bytes xs) (all-bytes ys))
-
--- what a few bytes spell stays below
-pub from-eight-bound : (xs : List ℕ) (a k : ℕ) → all-bytes xs ≡ true → a < 256 ^ k → from-eight a xs < 256 ^ (k + length xs)
-unfolding from-eight
-from-eight-bound [] a k h l = let e : k + 0 ≡ k = omega arith in subst (λ (m : ℕ). a < 256 ^ m) (sym e) l
-from-eight-bound (x ∷ xs) a k h l =
-    let t = and-parts (ltb x 256) (all-bytes xs) h in
-    let e : k + 1 + length xs ≡ k + suc (length xs) = omega arith in
-    subst (λ (m : ℕ). from-eight (256 * a + x) xs < 256 ^ m) e (from-eight-bound xs (256 * a + x) (k + 1) (t .1) (from-eight-less k a x l (ltb-true x 256 (t .0))))
 
 pub drop-zeros : (k n : ℕ) → drop k (zeros n) ≡ zeros (n - k)
 unfolding zeros

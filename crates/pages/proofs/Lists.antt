@@ -1,15 +1,15 @@
 -- Laws of the functions on lists: `same` is equality, `earlier` is a strict total order, and what `every` and `each` say of parts.
 use mathlib.Core.Path.{_≡_, refl, sym, ap, subst, _∙_}
-use mathlib.Core.Bool.{Bool, true, false, _&&_}
+use mathlib.Core.Bool.{Bool, true, false}
 use mathlib.Core.List.{List, [], _∷_, _++_}
 use mathlib.Core.Logic.{_⊎_, inl, inr, ⊎-elim}
-use Prim.Native.Nat.{ℕ, zero, suc, _+_, _≤_, _<_}
+use Prim.Native.Nat.{ℕ, zero, suc, _<_}
 use native.Mathlib.Omega.{arith}
-use lib.Dec.{eqb, ltb}
+use lib.Dec.{eqb}
 use lib.ListN.{length, take, drop}
 use borrow.Author.Tests.{lt-ltb, le-ltb, eq-eqb, ne-eqb}
-use Rattle.std.proofs.shelf.Tests.{cases-order, and-parts, ltb-true, eqb-true, cases-bool, both-ways}
-use Rattle.pages.specs.Lists.{pick, every, each, same, earlier, zeros}
+use Rattle.std.proofs.shelf.Tests.{cases-order, and-parts, eqb-true, cases-bool, both-ways}
+use Rattle.pages.specs.Lists.{every, each, same, earlier, zeros}
 
 -- `same` is equality
 pub same-is : (a b : List ℕ) → same a b ≡ true → a ≡ b
@@ -102,9 +102,9 @@ pub later-not-same : (a b : List ℕ) → earlier b a ≡ true → same a b ≡ 
 later-not-same a b p = ⊎-elim (λ q. absurd (earlier-apart b a p (sym (same-is a b q)))) (λ q. q) (cases-bool (same a b))
 
 -- `every` and `each` over parts
-pub every-append : {A : Type 0} (p : A → Bool) (a b : List A) → every p a ≡ true → every p b ≡ true → every p (a ++ b) ≡ true
-every-append p [] b h k = k
-every-append p (x ∷ a) b h k = let q = and-parts (p x) (every p a) h in simp (q .0, every-append p a b (q .1) k)
+pub every-join : {A : Type 0} (p : A → Bool) (a b : List A) → every p a ≡ true → every p b ≡ true → every p (a ++ b) ≡ true
+every-join p [] b h k = k
+every-join p (x ∷ a) b h k = let q = and-parts (p x) (every p a) h in simp (q .0, every-join p a b (q .1) k)
 
 pub every-take : {A : Type 0} (p : A → Bool) (n : ℕ) (a : List A) → every p a ≡ true → every p (take n a) ≡ true
 every-take p zero a h = refl
@@ -116,10 +116,6 @@ every-drop p zero a h = h
 every-drop p (suc n) [] h = refl
 every-drop p (suc n) (x ∷ a) h = every-drop p n a (and-parts (p x) (every p a) h .1)
 
-pub each-append : {A B : Type 0} (f : A → B) (a b : List A) → each f (a ++ b) ≡ each f a ++ each f b
-each-append f [] b = refl
-each-append f (x ∷ a) b = ap (λ r. f x ∷ r) (each-append f a b)
-
 pub each-take : {A B : Type 0} (f : A → B) (n : ℕ) (a : List A) → each f (take n a) ≡ take n (each f a)
 each-take f zero a = refl
 each-take f (suc n) [] = refl
@@ -130,10 +126,7 @@ each-drop f zero a = refl
 each-drop f (suc n) [] = refl
 each-drop f (suc n) (x ∷ a) = each-drop f n a
 
-pub length-each : {A B : Type 0} (f : A → B) (a : List A) → length (each f a) ≡ length a
-length-each f [] = refl
-length-each f (x ∷ a) = ap suc (length-each f a)
-
+-- zeros are zeros
 pub zeros-zero : (n : ℕ) → every (λ m. eqb m 0) (zeros n) ≡ true
 unfolding zeros
 zeros-zero zero = refl

@@ -9,14 +9,18 @@ use native.Mathlib.Nat.{pow-zero, pow-suc, mul-assoc, mul-comm}
 use lib.Dec.{eqb, ltb, leb, lit<, lit≤}
 use lib.ListN.{length, take, drop, take-append-drop, length-append}
 use lib.Seq.{take-at, drop-at, length-take-le}
-use Rattle.std.proofs.shelf.Tests.{and-parts, and-from, cases-eq, ltb-true, leb-true, lt-ltb, le-leb, eq-eqb, ne-eqb}
+use Rattle.std.proofs.shelf.Tests.{and-parts, and-from, cases-eq, ltb-true, leb-true, lt-ltb, le-leb, lt-leb, eq-eqb, ne-eqb}
 use Rattle.pages.specs.Lists.{pick, every, flat}
 use Rattle.pages.specs.Bytes.{eight, with-length, from-eight, all-bytes}
 use Rattle.pages.proofs.Bytes.{length-eight, eight-is-bytes, from-eight-eight, eight-from-eight}
 use Rattle.words.specs.Words.{in-word}
 use Rattle.questions.specs.Query.{Query, word, phrase, begins, near, both, either, but}
 use Rattle.questions.specs.Spelling.{query-spelled, query-fits, size, a-word}
-use Rattle.questions.specs.Reading.{Read, nothing, got, then, only, read-part, read-byte, read-number, read-bytes, read-word, read-words, read-phrase, read-field, read-distance, read-sought, read-single, Asked, whole, read-two, read-kind, read-query}
+use denote.Ref.{RefT}
+use Rattle.std.specs.Options.{Cases}
+use Rattle.std.specs.declared.option.Option.{Option}
+use Rattle.std.specs.declared.option.Option.the-variants.{Some, None}
+use Rattle.questions.specs.Reading.{Read, nothing, got, then, only, Left, read-part, read-byte, read-number, read-bytes, read-word, read-words, read-phrase, read-field, in-range, read-within, read-sought, read-near, read-single, Asked, whole, read-two, read-kind, read-query}
 
 -- THE PARTS OF A READING
 
@@ -28,6 +32,9 @@ then-got (got a rest₁) f b rest h = (a, rest₁, refl, h)
 
 pub then-on : {A B : Type 0} {r : Read A} {a : A} {rest : List ℕ} (f : A → List ℕ → Read B) → r ≡ got a rest → then r f ≡ f a rest
 then-on f h = ap (λ r. then r f) h
+
+pub then-none : {A B : Type 0} {r : Read A} (f : A → List ℕ → Read B) → r ≡ nothing → then r f ≡ nothing
+then-none f h = ap (λ r. then r f) h
 
 pub pick-got : {A : Type 0} (t : Bool) (r : Read A) (a : A) (rest : List ℕ) → pick t r nothing ≡ got a rest → (t ≡ true) × (r ≡ got a rest)
 pick-got true r a rest h = (refl, h)
@@ -116,6 +123,22 @@ sound-number bs n rest ok h =
     got-same (λ m r. (eight m ++ r ≡ bs) × (m < 18446744073709551616)) (g .6)
     (ap (λ x. x ++ g .1) (eight-from-eight (g .0) (g .5) (g .3)) ∙ g .2, from-eight-below (g .0) (g .5) (g .3))
 
+-- what is read so, and passes a test
+pub reads-only : {A : Type 0} (spell : A → List ℕ) (read : List ℕ → Read A) (p : A → Bool) (a : A) (rest : List ℕ) → read (spell a ++ rest) ≡ got a rest → p a ≡ true →
+    then (read (spell a ++ rest)) (only p) ≡ got a rest
+reads-only spell read p a rest h t = then-on (only p) h ∙ only-on p a rest t
+
+-- A NUMBER BETWEEN TWO OTHERS
+pub reads-within : (low high n : ℕ) (rest : List ℕ) → high < 18446744073709551616 → in-range low high n ≡ true → read-within low high (eight n ++ rest) ≡ got n rest
+unfolding read-within
+reads-within low high n rest small h =
+    let e = and-parts (leb low n) (leb n high) h in
+    reads-only eight read-number (in-range low high) n rest (reads-number n rest (omega (arith, leb-true n high (e .1)))) h
+
+pub sound-within : (low high : ℕ) → Sound eight (λ n. in-range low high n ≡ true) (read-within low high)
+unfolding read-within
+sound-within low high bs n rest ok h = let s = sound-only eight _ read-number (in-range low high) sound-number bs n rest ok h in (s .0, s .1 .1)
+
 -- BYTES WITH THEIR COUNT
 pub reads-bytes : (xs rest : List ℕ) → length xs < 18446744073709551616 → read-bytes (with-length xs ++ rest) ≡ got xs rest
 unfolding read-bytes
@@ -128,11 +151,6 @@ sound-bytes bs xs rest ok h =
     let g = step eight _ read-number sound-number read-part bs xs rest ok h in
     let s = sound-part (g .0) (g .1) xs rest (g .4) (g .6) in
     (append-assoc (eight (length xs)) xs rest ∙ ap (λ r. eight (length xs) ++ r) (s .0) ∙ ap (λ n. eight n ++ g .1) (s .1) ∙ g .2, omega (arith, s .1, g .5))
-
--- what is read so, and passes a test
-pub reads-only : {A : Type 0} (spell : A → List ℕ) (read : List ℕ → Read A) (p : A → Bool) (a : A) (rest : List ℕ) → read (spell a ++ rest) ≡ got a rest → p a ≡ true →
-    then (read (spell a ++ rest)) (only p) ≡ got a rest
-reads-only spell read p a rest h t = then-on (only p) h ∙ only-on p a rest t
 
 -- A WORD
 word-short : (w : List ℕ) → a-word w ≡ true → length w < 18446744073709551616
@@ -169,30 +187,22 @@ sound-words (suc n) bs ws rest ok h =
 abbrev pub phrase-spelled : List (List ℕ) → List ℕ
 phrase-spelled ws = eight (length ws) ++ flat with-length ws
 
-abbrev pub a-phrase : ℕ → Bool
-a-phrase n = leb 1 n && leb n 16
-
-pub reads-phrase : (ws : List (List ℕ)) (rest : List ℕ) → a-phrase (length ws) ≡ true → every a-word ws ≡ true → read-phrase (phrase-spelled ws ++ rest) ≡ got ws rest
+pub reads-phrase : (ws : List (List ℕ)) (rest : List ℕ) → in-range 1 16 (length ws) ≡ true → every a-word ws ≡ true → read-phrase (phrase-spelled ws ++ rest) ≡ got ws rest
 unfolding read-phrase
 reads-phrase ws rest h t =
-    let e = and-parts (leb 1 (length ws)) (leb (length ws) 16) h in
-    let few : length ws < 18446744073709551616 = omega (arith, leb-true (length ws) 16 (e .1)) in
-    then-on _ (ap read-number (append-assoc (eight (length ws)) (flat with-length ws) rest) ∙ reads-number (length ws) (flat with-length ws ++ rest) few)
-    ∙ then-on read-words (only-on a-phrase (length ws) (flat with-length ws ++ rest) h) ∙ reads-words ws rest t
+    then-on read-words (ap (read-within 1 16) (append-assoc (eight (length ws)) (flat with-length ws) rest) ∙ reads-within 1 16 (length ws) (flat with-length ws ++ rest) (lit< tt) h)
+    ∙ reads-words ws rest t
 
-pub sound-phrase : Sound phrase-spelled (λ ws. (a-phrase (length ws) ≡ true) × (every a-word ws ≡ true)) read-phrase
+pub sound-phrase : Sound phrase-spelled (λ ws. (in-range 1 16 (length ws) ≡ true) × (every a-word ws ≡ true)) read-phrase
 unfolding read-phrase
 sound-phrase bs ws rest ok h =
-    let g = step eight _ read-number sound-number _ bs ws rest ok h in
-    let o = then-got (only a-phrase (g .0) (g .1)) read-words ws rest (g .6) in
-    let t = pick-got (a-phrase (g .0)) (got (g .0) (g .1)) (o .0) (o .1) (o .2) in
-    let e : read-words (o .0) (o .1) ≡ read-words (g .0) (g .1) = cc in
-    let s = sound-words (g .0) (g .1) ws rest (g .4) (sym e ∙ o .3) in (
+    let g = step eight _ (read-within 1 16) (sound-within 1 16) read-words bs ws rest ok h in
+    let s = sound-words (g .0) (g .1) ws rest (g .4) (g .6) in (
       append-assoc (eight (length ws)) (flat with-length ws) rest ∙ ap (λ r. eight (length ws) ++ r) (s .0) ∙ ap (λ n. eight n ++ g .1) (s .1 .0) ∙ g .2,
-      (ap a-phrase (s .1 .0) ∙ t .0, s .1 .1),
+      (ap (in-range 1 16) (s .1 .0) ∙ g .5, s .1 .1),
     )
 
--- WHERE ONE LOOKS, AND HOW FAR APART
+-- WHERE ONE LOOKS
 pub sound-byte : Sound (λ b. b ∷ []) (λ b. b < 256) read-byte
 sound-byte [] b rest ok h = let z : _≡_ {A = ℕ} 0 1 = cc in absurd (omega arith)
 sound-byte (x ∷ bs) b rest ok h =
@@ -205,19 +215,6 @@ sound-field bs f rest ok h = let s = sound-only (λ b. b ∷ []) _ read-byte _ s
 pub reads-field : (f : ℕ) (rest : List ℕ) → ltb f 3 ≡ true → read-field (f ∷ rest) ≡ got f rest
 unfolding read-field
 reads-field f rest h = only-on (λ x. ltb x 3) f rest h
-
-abbrev pub a-distance : ℕ → Bool
-a-distance n = leb 1 n && leb n 64
-
-pub sound-distance : Sound eight (λ n. a-distance n ≡ true) read-distance
-unfolding read-distance
-sound-distance bs n rest ok h = let s = sound-only eight _ read-number a-distance sound-number bs n rest ok h in (s .0, s .1 .1)
-
-pub reads-distance : (n : ℕ) (rest : List ℕ) → a-distance n ≡ true → read-distance (eight n ++ rest) ≡ got n rest
-unfolding read-distance
-reads-distance n rest h =
-    let e = and-parts (leb 1 n) (leb n 64) h in
-    reads-only eight read-number a-distance n rest (reads-number n rest (omega (arith, leb-true n 64 (e .1)))) h
 
 -- WHERE ONE LOOKS, AND WHAT FOR
 module _ {A : Type 0} (spell : A → List ℕ) (Good : A → Type 0) (read : List ℕ → Read A) where
@@ -273,22 +270,22 @@ reads-two join q r rq rr depth left rest fit l d =
     ∙ then-on _ (rr depth (left - size q) rest (e .1) (omega arith) (omega arith)) ∙ ap (λ k. whole k (join q r) rest) n
 
 reads-some : (q : Query) → Reads-some q
-unfolding read-query read-kind read-single query-spelled query-fits size
+unfolding read-query read-kind read-single read-near query-spelled query-fits size
 reads-some (word f w) depth left rest fit l d =
     let e = and-parts (ltb f 3) (a-word w) fit in
     then-on (whole left) (then-on _ (reads-sought with-length (λ w. a-word w ≡ true) read-word f w rest (e .0) (reads-word w rest (e .1)))) ∙ ap (λ k. whole k (word f w) rest) (omega arith)
 reads-some (phrase f ws) depth left rest fit l d =
-    let e = and-parts (ltb f 3 && a-phrase (length ws)) (every a-word ws) fit in
-    let e₁ = and-parts (ltb f 3) (a-phrase (length ws)) (e .0) in
+    let e = and-parts (ltb f 3 && in-range 1 16 (length ws)) (every a-word ws) fit in
+    let e₁ = and-parts (ltb f 3) (in-range 1 16 (length ws)) (e .0) in
     then-on (whole left) (then-on _ (reads-sought phrase-spelled (λ w. every a-word w ≡ true) read-phrase f ws rest (e₁ .0) (reads-phrase ws rest (e₁ .1) (e .1)))) ∙ ap (λ k. whole k (phrase f ws) rest) (omega arith)
 reads-some (begins f p) depth left rest fit l d =
     let e = and-parts (ltb f 3) (a-word p) fit in
     then-on (whole left) (then-on _ (reads-sought with-length (λ w. a-word w ≡ true) read-word f p rest (e .0) (reads-word p rest (e .1)))) ∙ ap (λ k. whole k (begins f p) rest) (omega arith)
 reads-some (near n a b) depth left rest fit l d =
-    let e = and-parts (a-distance n) (a-word a && a-word b) fit in
+    let e = and-parts (in-range 1 64 n) (a-word a && a-word b) fit in
     let e₁ = and-parts (a-word a) (a-word b) (e .1) in
-    then-on (whole left) (then-on _ (ap read-distance (append-assoc (eight n ++ with-length a) (with-length b) rest ∙ append-assoc (eight n) (with-length a) (with-length b ++ rest))
-    ∙ reads-distance n (with-length a ++ (with-length b ++ rest)) (e .0))
+    then-on (whole left) (then-on _ (ap (read-within 1 64) (append-assoc (eight n ++ with-length a) (with-length b) rest ∙ append-assoc (eight n) (with-length a) (with-length b ++ rest))
+    ∙ reads-within 1 64 n (with-length a ++ (with-length b ++ rest)) (lit< tt) (e .0))
     ∙ then-on _ (reads-word a (with-length b ++ rest) (e₁ .0)) ∙ then-on _ (reads-word b rest (e₁ .1)))
     ∙ ap (λ k. whole k (near n a b) rest) (omega arith)
 reads-some (both q r) depth left rest fit l d = reads-two both q r (reads-any q (reads-some q)) (reads-any r (reads-some r)) depth left rest fit l d
@@ -320,10 +317,10 @@ stands-sought kind spell Good read sound make is bs q rest ok h =
     got-same (Stands-single kind bs) (g .6) (ap (λ x. x ++ g .1) (m .0) ∙ ap (λ r. kind ∷ r) (g .2), m .1)
 
 stands-near : (bs : List ℕ) (q : Query) (rest : List ℕ) → all-bytes bs ≡ true →
-    then (read-distance bs) (λ n rest₁. then (read-word rest₁) (λ v rest₂. then (read-word rest₂) (λ w rest₃. got (near n v w) rest₃))) ≡ got q rest → Stands-single 4 bs q rest
-unfolding query-spelled query-fits size
+    read-near bs ≡ got q rest → Stands-single 4 bs q rest
+unfolding read-near query-spelled query-fits size
 stands-near bs q rest ok h =
-    let g = step eight _ read-distance sound-distance _ bs q rest ok h in
+    let g = step eight _ (read-within 1 64) (sound-within 1 64) _ bs q rest ok h in
     let k = step with-length _ read-word sound-word _ (g .1) q rest (g .4) (g .6) in
     let m = step with-length _ read-word sound-word _ (k .1) q rest (k .4) (k .6) in
     got-same (Stands-single 4 bs) (m .6) (
@@ -419,13 +416,130 @@ pub query-bytes : (q : Query) → query-fits q ≡ true → all-bytes (query-spe
 unfolding query-spelled query-fits
 query-bytes (word f w) fit = let e = and-parts (ltb f 3) (a-word w) fit in and-from _ _ (field-byte f (e .0)) (with-length-bytes w (word-bytes w (e .1)))
 query-bytes (phrase f ws) fit =
-    let e = and-parts (ltb f 3 && a-phrase (length ws)) (every a-word ws) fit in
+    let e = and-parts (ltb f 3 && in-range 1 16 (length ws)) (every a-word ws) fit in
     and-from _ _ (field-byte f (and-parts _ _ (e .0) .0)) (every-both _ (eight (length ws)) (flat with-length ws) (eight-is-bytes (length ws)) (words-bytes ws (e .1)))
 query-bytes (begins f p) fit = let e = and-parts (ltb f 3) (a-word p) fit in and-from _ _ (field-byte f (e .0)) (with-length-bytes p (word-bytes p (e .1)))
 query-bytes (near n a b) fit =
-    let e = and-parts (a-word a) (a-word b) (and-parts (a-distance n) (a-word a && a-word b) fit .1) in
+    let e = and-parts (a-word a) (a-word b) (and-parts (in-range 1 64 n) (a-word a && a-word b) fit .1) in
     every-both _ (eight n ++ with-length a) (with-length b) (every-both _ (eight n) (with-length a) (eight-is-bytes n) (with-length-bytes a (word-bytes a (e .0))))
     (with-length-bytes b (word-bytes b (e .1)))
 query-bytes (both q r) fit = two-bytes q r (query-bytes q) (query-bytes r) fit
 query-bytes (either q r) fit = two-bytes q r (query-bytes q) (query-bytes r) fit
 query-bytes (but q r) fit = two-bytes q r (query-bytes q) (query-bytes r) fit
+
+-- WHAT CODE TELLS OF A READING
+pub part-here : (n : ℕ) (bs : List ℕ) → n ≤ length bs → read-part n bs ≡ got (take n bs) (drop n bs)
+part-here n bs h = ap (λ t. pick t (got (take n bs) (drop n bs)) nothing) (le-leb n (length bs) h)
+
+pub part-short : (n : ℕ) (bs : List ℕ) → length bs < n → read-part n bs ≡ nothing
+part-short n bs h = ap (λ t. pick t (got (take n bs) (drop n bs)) nothing) (lt-leb n (length bs) h)
+
+-- a test after a reading: passed, and failed
+pub passed : {A : Type 0} (r : Read A) (p : A → Bool) (a : A) (rest : List ℕ) → r ≡ got a rest → p a ≡ true → then r (only p) ≡ got a rest
+passed r p a rest h t = then-on (only p) h ∙ only-on p a rest t
+
+pub failed : {A : Type 0} (r : Read A) (p : A → Bool) (a : A) (rest : List ℕ) → r ≡ got a rest → p a ≡ false → then r (only p) ≡ nothing
+failed r p a rest h t = then-on (only p) h ∙ ap (λ u. pick u (got a rest) nothing) t
+
+-- where only the bytes after it count: the same reading by another name
+pub left-same : {A : Type 0} {r s : Read A} (o : Option (RefT (List ℕ))) → r ≡ s → Left s o → Left r o
+left-same {A} o e h = subst (λ (x : Read A). Left x o) (sym e) h
+
+-- and something made of what was read
+pub left-made : {A B : Type 0} (s : Read A) (f : A → B) (o : Option (RefT (List ℕ))) → Left s o → Left (then s (λ a rest. got (f a) rest)) o
+left-made s f None h = then-none _ h
+left-made s f (Some rest) h = (f (h .0), then-on _ (h .1))
+
+-- the words one by one
+pub words-none : (n : ℕ) (bs : List ℕ) → n ≡ 0 → read-words n bs ≡ got [] bs
+unfolding read-words
+words-none n bs h = ap (λ k. read-words k bs) h
+
+pub words-more : (n : ℕ) (bs : List ℕ) → 1 ≤ n → read-words n bs ≡ then (read-word bs) (λ w rest. then (read-words (n - 1) rest) (λ ws rest₁. got (w ∷ ws) rest₁))
+unfolding read-words
+words-more zero bs h = absurd (omega arith)
+words-more (suc n) bs h =
+    let e : n ≡ suc n - 1 = omega arith in
+    ap (λ k. then (read-word bs) (λ w rest. then (read-words k rest) (λ ws rest₁. got (w ∷ ws) rest₁))) e
+
+-- a question of one part, by its kind
+pub sought-none : {A : Type 0} (read : List ℕ → Read A) (bs : List ℕ) → read-field bs ≡ nothing → read-sought read bs ≡ nothing
+unfolding read-sought
+sought-none read bs h = then-none _ h
+
+pub sought-left : {A : Type 0} (read : List ℕ → Read A) (bs : List ℕ) (f : ℕ) (rest : List ℕ) (o : Option (RefT (List ℕ))) → read-field bs ≡ got f rest → Left (read rest) o →
+    Left (read-sought read bs) o
+unfolding read-sought
+sought-left read bs f rest o h l = left-same o (then-on _ h) (left-made (read rest) (λ x. (f, x)) o l)
+
+pub single-word : (kind : ℕ) (bs : List ℕ) (o : Option (RefT (List ℕ))) → kind ≡ 1 → Left (read-sought read-word bs) o → Left (read-single kind bs) o
+unfolding read-single
+single-word kind bs o e h = subst (λ (k : ℕ). Left (read-single k bs) o) (sym e) (left-made (read-sought read-word bs) (λ s. word (s .0) (s .1)) o h)
+
+pub single-begins : (kind : ℕ) (bs : List ℕ) (o : Option (RefT (List ℕ))) → kind ≡ 3 → Left (read-sought read-word bs) o → Left (read-single kind bs) o
+unfolding read-single
+single-begins kind bs o e h = subst (λ (k : ℕ). Left (read-single k bs) o) (sym e) (left-made (read-sought read-word bs) (λ s. begins (s .0) (s .1)) o h)
+
+pub single-phrase : (kind : ℕ) (bs : List ℕ) (o : Option (RefT (List ℕ))) → kind ≡ 2 → Left (read-sought read-phrase bs) o → Left (read-single kind bs) o
+unfolding read-single
+single-phrase kind bs o e h = subst (λ (k : ℕ). Left (read-single k bs) o) (sym e) (left-made (read-sought read-phrase bs) (λ s. phrase (s .0) (s .1)) o h)
+
+pub single-near : (kind : ℕ) (bs : List ℕ) (o : Option (RefT (List ℕ))) → kind ≡ 4 → Left (read-near bs) o → Left (read-single kind bs) o
+unfolding read-single
+single-near kind bs o e h = subst (λ (k : ℕ). Left (read-single k bs) o) (sym e) h
+
+pub single-none : (kind : ℕ) (bs : List ℕ) → (kind ≡ 1 → ⊥) → (kind ≡ 2 → ⊥) → (kind ≡ 3 → ⊥) → (kind ≡ 4 → ⊥) → read-single kind bs ≡ nothing
+unfolding read-single
+single-none kind bs a b c d = simp (ne-eqb kind 1 a, ne-eqb kind 2 b, ne-eqb kind 3 c, ne-eqb kind 4 d)
+
+-- a question by its first byte
+pub query-none : (depth left : ℕ) (bs : List ℕ) → (depth ≡ 0) ⊎ (left ≡ 0) → read-query depth left bs ≡ nothing
+unfolding read-query
+query-none zero left bs h = refl
+query-none (suc depth) zero bs h = refl
+query-none (suc depth) (suc left) bs h = absurd (⊎-elim (λ e. omega arith) (λ e. omega arith) h)
+
+pub query-more : (depth left : ℕ) (bs : List ℕ) → 1 ≤ depth → 1 ≤ left → read-query depth left bs ≡ then (read-byte bs) (read-kind (read-query (depth - 1)) (left - 1))
+unfolding read-query
+query-more zero left bs d l = absurd (omega arith)
+query-more (suc depth) zero bs d l = absurd (omega arith)
+query-more (suc depth) (suc left) bs d l =
+    let e : depth ≡ suc depth - 1 = omega arith in
+    let e₁ : left ≡ suc left - 1 = omega arith in
+    ap (λ k. then (read-byte bs) (read-kind (read-query k) left)) e ∙ ap (λ k. then (read-byte bs) (read-kind (read-query (suc depth - 1)) k)) e₁
+
+pub kind-two : (kind : ℕ) → 5 ≤ kind → kind ≤ 7 → (join : Query → Query → Query) × ((read : ℕ → List ℕ → Read Asked) (left : ℕ) (bs : List ℕ) → read-kind read left kind bs ≡ read-two read join left bs)
+unfolding read-kind
+kind-two kind l h =
+    elim (cases-eq kind 5) [
+      | inl e ↦ (both, λ read left bs. ap (λ k. read-kind read left k bs) e)
+      | inr n ↦ elim (cases-eq kind 6) [
+        | inl e ↦ (either, λ read left bs. ap (λ k. read-kind read left k bs) e)
+        | inr m ↦ let e : kind ≡ 7 = omega arith in (but, λ read left bs. ap (λ k. read-kind read left k bs) e)
+      ]
+    ]
+
+pub kind-single : (kind : ℕ) → (5 ≤ kind → kind ≤ 7 → ⊥) → (read : ℕ → List ℕ → Read Asked) (left : ℕ) (bs : List ℕ) → read-kind read left kind bs ≡ then (read-single kind bs) (whole left)
+unfolding read-kind
+kind-single kind h read left bs =
+    simp (ne-eqb kind 5 (λ e. h (omega arith) (omega arith)), ne-eqb kind 6 (λ e. h (omega arith) (omega arith)), ne-eqb kind 7 (λ e. h (omega arith) (omega arith)))
+
+-- two questions, of which the first was not there, or was
+pub two-none : (read : ℕ → List ℕ → Read Asked) (join : Query → Query → Query) (left : ℕ) (bs : List ℕ) → read left bs ≡ nothing → read-two read join left bs ≡ nothing
+unfolding read-two
+two-none read join left bs h = then-none _ h
+
+pub two-left : (read : ℕ → List ℕ → Read Asked) (join : Query → Query → Query) (left : ℕ) (bs : List ℕ) (q : Query) (k : ℕ) (rest : List ℕ) → read left bs ≡ whole k q rest →
+    read-two read join left bs ≡ then (read k rest) (λ b rest₁. whole (b .left) (join q (b .query)) rest₁)
+unfolding read-two
+two-left read join left bs q k rest h = then-on _ h
+
+pub query-at : (depth left : ℕ) (bs : List ℕ) (kind : ℕ) (rest : List ℕ) → 1 ≤ depth → 1 ≤ left → bs ≡ kind ∷ rest →
+    read-query depth left bs ≡ read-kind (read-query (depth - 1)) (left - 1) kind rest
+query-at depth left bs kind rest d l e = query-more depth left bs d l ∙ ap (λ x. then (read-byte x) (read-kind (read-query (depth - 1)) (left - 1))) e
+
+-- what is told of two questions is told of the second, with the first joined to it
+pub told-joined : {R : Type 0} (left : R → ℕ) (rest : R → List ℕ) (x y : Read Asked) (f : Query → Query) (o : Option R) → x ≡ then y (λ b r. whole (b .left) (f (b .query)) r) →
+    Cases o (y ≡ nothing) (λ a. (q : Query) × (y ≡ whole (left a) q (rest a))) → Cases o (x ≡ nothing) (λ a. (q : Query) × (x ≡ whole (left a) q (rest a)))
+told-joined left rest x y f None e h = e ∙ then-none _ h
+told-joined left rest x y f (Some a) e h = (f (h .0), e ∙ then-on _ (h .1))

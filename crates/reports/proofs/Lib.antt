@@ -4,6 +4,8 @@ pub mod Moves
 pub mod Names
 pub mod Promises
 pub mod Reading
+pub mod Requests
+pub mod Standing
 pub mod Steady
 pub mod Stepping
 pub mod Turns

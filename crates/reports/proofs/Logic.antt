@@ -114,42 +114,43 @@ cut e Safe Fin zero (suc n) w ev ss r h = inr (refl, h .0, grows e (suc n) w ev 
 cut e Safe Fin (suc i) (suc n) w ev ss r h = cut-act Safe Fin _ _ (Well e Safe Fin n) (λ w₁ ev₁ ss₁ r₁ h₁. cut e Safe Fin i n w₁ ev₁ ss₁ r₁ h₁) w ss r _ _ (h .1)
 
 -- KEPT RIGHT ONE COMMAND AT A TIME: what holds without power (Down) and with it (Up); that coming up goes well, and each command. Each leaves, if stopped, what was
--- noted before or, at its commit, after it.
-module _ {S : Type 0} (may : S → List ℕ → List (List ℕ) → ℕ → ℕ → S → Type 0) (after : S → S) (e : Engine) (Down : Device → S → Type 0) (Up : World → S → Type 0) where
-  abbrev pub Stops : S → World → Type 0
-  Stops s w = (cs : List ℕ) → Down (stopped (w .device) cs) s
+-- noted before or, at its commit, after it. A number that falls with each item says how many are still to come: so a count that rises with each, as that
+-- of commits, need not be feared to overflow.
+module _ {S : Type 0} (may : S → List ℕ → List (List ℕ) → ℕ → ℕ → S → Type 0) (after : S → S) (e : Engine) (Down : ℕ → Device → S → Type 0) (Up : ℕ → World → S → Type 0) where
+  abbrev pub Stops : ℕ → S → World → Type 0
+  Stops n s w = (cs : List ℕ) → Down n (stopped (w .device) cs) s
 
-  abbrev pub Awake : S → World → List (List ℕ) → ℕ → ℕ → Type 0
-  Awake s w ss r reply = (ss ≡ []) × (reply ≡ 0) × Up w s × Stops s w × Stops (after s) w
+  abbrev pub Awake : ℕ → S → World → List (List ℕ) → ℕ → ℕ → Type 0
+  Awake n s w ss r reply = (ss ≡ []) × (reply ≡ 0) × Up n w s × Stops n s w × Stops n (after s) w
 
-  abbrev pub Obeyed : S → List ℕ → S → World → List (List ℕ) → ℕ → ℕ → Type 0
-  Obeyed s t s₂ v ss r reply = may s t ss r reply s₂ × Up v s₂ × Stops (after s₂) v
+  abbrev pub Obeyed : ℕ → S → List ℕ → S → World → List (List ℕ) → ℕ → ℕ → Type 0
+  Obeyed n s t s₂ v ss r reply = may s t ss r reply s₂ × Up n v s₂ × Stops n (after s₂) v
 
-  abbrev pub Either-stands : S → S → World → Type 0
-  Either-stands s s₂ v = (cs : List ℕ) → Down (stopped (v .device) cs) (after s) ⊎ Down (stopped (v .device) cs) (after s₂)
+  abbrev pub Either-stands : ℕ → S → S → World → Type 0
+  Either-stands n s s₂ v = (cs : List ℕ) → Down n (stopped (v .device) cs) (after s) ⊎ Down n (stopped (v .device) cs) (after s₂)
 
   abbrev pub Boots : Type 0
-  Boots = (d : Device) (s : S) → Down d s → (n : ℕ) × Well e (Stops s) (Awake s) n (record { device = d; memory = e .start }) (on (length (d .pages))) [] 0
+  Boots = (n : ℕ) (d : Device) (s : S) → Down (suc n) d s → (k : ℕ) × Well e (Stops n s) (Awake n s) k (record { device = d; memory = e .start }) (on (length (d .pages))) [] 0
 
   abbrev pub Obeys : Type 0
-  Obeys = (w : World) (s : S) (t : List ℕ) → Up w s → Stops (after s) w → (n : ℕ) × (s₂ : S) × Well e (Either-stands s s₂) (Obeyed s t s₂) n w (said t) [] 0
+  Obeys = (n : ℕ) (w : World) (s : S) (t : List ℕ) → Up (suc n) w s → Stops (suc n) (after s) w → (k : ℕ) × (s₂ : S) × Well e (Either-stands n s s₂) (Obeyed n s t s₂) k w (said t) [] 0
 
-module _ {S : Type 0} (may : S → List ℕ → List (List ℕ) → ℕ → ℕ → S → Type 0) (after : S → S) (e : Engine) (Down : Device → S → Type 0) (Up : World → S → Type 0)
+module _ {S : Type 0} (may : S → List ℕ → List (List ℕ) → ℕ → ℕ → S → Type 0) (after : S → S) (e : Engine) (Down : ℕ → Device → S → Type 0) (Up : ℕ → World → S → Type 0)
     (boots : Boots may after e Down Up) (obeys : Obeys may after e Down Up) where
   -- with power or without it
-  abbrev pub Here : Bool → World → S → Type 0
-  Here true w s = Up w s × Stops may after e Down Up (after s) w
-  Here false w s = Down (w .device) s
+  abbrev pub Here : ℕ → Bool → World → S → Type 0
+  Here n true w s = Up n w s × Stops may after e Down Up n (after s) w
+  Here n false w s = Down n (w .device) s
 
   nothing : (xs ys : List (List ℕ)) → xs ++ ys ≡ [] → xs ≡ []
   nothing [] ys h = refl
   nothing (x ∷ xs) ys h = let z : _≡_ {A = ℕ} 0 1 = cc in absurd (omega arith)
 
   -- stopped while it comes up
-  half-up : (s : S) (o full : Ran) → Cut (Stops may after e Down Up s) o full → Ended (Awake may after e Down Up s) full → (cs : List ℕ) →
-      ((o .end ≡ 0) ⊎ (o .end ≡ 1000)) × (o .showed ≡ []) × Down (stopped (o .here .device) cs) s
-  half-up s o full (inl q) f cs = (inl (ap (λ x. x .end) q ∙ f .1), ap (λ x. x .showed) q ∙ f .0, subst (λ (x : Ran). Down (stopped (x .here .device) cs) s) (sym q) (f .3 cs))
-  half-up s o full (inr q) f cs = (inr (q .0), nothing (o .showed) (q .2 .0) (q .2 .1 ∙ f .0), q .1 cs)
+  half-up : (n : ℕ) (s : S) (o full : Ran) → Cut (Stops may after e Down Up n s) o full → Ended (Awake may after e Down Up n s) full → (cs : List ℕ) →
+      ((o .end ≡ 0) ⊎ (o .end ≡ 1000)) × (o .showed ≡ []) × Down n (stopped (o .here .device) cs) s
+  half-up n s o full (inl q) f cs = (inl (ap (λ x. x .end) q ∙ f .1), ap (λ x. x .showed) q ∙ f .0, subst (λ (x : Ran). Down n (stopped (x .here .device) cs) s) (sym q) (f .3 cs))
+  half-up n s o full (inr q) f cs = (inr (q .0), nothing (o .showed) (q .2 .0) (q .2 .1 ∙ f .0), q .1 cs)
 
   -- stopped in a command: some state, which the command may have left or was before it, is what stands
   pub Halted : S → List ℕ → Ran → S → Type 0
@@ -157,40 +158,40 @@ module _ {S : Type 0} (may : S → List ℕ → List (List ℕ) → ℕ → ℕ 
       may s t (o .showed) (o .pages-used) (o .end) s₁
       ⊎ ((o .end ≡ 1000) × (more : List (List ℕ)) × (r : ℕ) × (reply : ℕ) × (s₂ : S) × may s t (o .showed ++ more) r reply s₂ × ((s₁ ≡ s) ⊎ (s₁ ≡ s₂)))
 
-  halfway : (s : S) (t : List ℕ) (s₂ : S) (o full : Ran) → Cut (Either-stands may after e Down Up s s₂) o full → Ended (Obeyed may after e Down Up s t s₂) full → (cs : List ℕ) →
-      (s₁ : S) × Halted s t o s₁ × Down (stopped (o .here .device) cs) (after s₁)
+  halfway : (n : ℕ) (s : S) (t : List ℕ) (s₂ : S) (o full : Ran) → Cut (Either-stands may after e Down Up n s s₂) o full → Ended (Obeyed may after e Down Up n s t s₂) full → (cs : List ℕ) →
+      (s₁ : S) × Halted s t o s₁ × Down n (stopped (o .here .device) cs) (after s₁)
   unfolding Halted
-  halfway s t s₂ o full (inl q) f cs =
-      (s₂, inl (subst (λ (x : Ran). may s t (x .showed) (x .pages-used) (x .end) s₂) (sym q) (f .0)), subst (λ (x : Ran). Down (stopped (x .here .device) cs) (after s₂)) (sym q) (f .2 cs))
-  halfway s t s₂ o full (inr q) f cs =
+  halfway n s t s₂ o full (inl q) f cs =
+      (s₂, inl (subst (λ (x : Ran). may s t (x .showed) (x .pages-used) (x .end) s₂) (sym q) (f .0)), subst (λ (x : Ran). Down n (stopped (x .here .device) cs) (after s₂)) (sym q) (f .2 cs))
+  halfway n s t s₂ o full (inr q) f cs =
       let m : may s t (o .showed ++ q .2 .0) (full .pages-used) (full .end) s₂ = subst (λ (x : List (List ℕ)). may s t x (full .pages-used) (full .end) s₂) (sym (q .2 .1)) (f .0) in
       elim (q .1 cs) [
         | inl d ↦ (s, inr (q .0, q .2 .0, full .pages-used, full .end, s₂, m, inl refl), d)
         | inr d ↦ (s₂, inr (q .0, q .2 .0, full .pages-used, full .end, s₂, m, inr refl), d)
       ]
 
-  pub right : (is : List Item) (up : Bool) (v : World) (s : S) → Here up v s → proper up is ≡ true → Right may after e v s is
+  pub right : (is : List Item) (up : Bool) (v : World) (s : S) → Here (length is) up v s → proper up is ≡ true → Right may after e v s is
   unfolding Right proper Halted
   right [] up v s h p = refl
   right (power ∷ is) false v s h p =
-      let b = boots (v .device) s h in
+      let b = boots (length is) (v .device) s h in
       let f = ends e _ _ (b .0) _ _ _ _ (b .1) in
       (b .0, f .1, f .0, right is true _ s (f .2, f .4) p)
   right (power ∷ is) true v s h p = let z : _≡_ {A = ℕ} 0 1 = cc in absurd (omega arith)
   right (power-stops n cs ∷ is) false v s h p =
-      let b = boots (v .device) s h in
+      let b = boots (length is) (v .device) s h in
       let f = ends e _ _ (b .0) _ _ _ _ (b .1) in
-      let c = half-up s _ _ (cut e _ _ n (b .0) _ _ _ _ (b .1)) f cs in
+      let c = half-up (length is) s _ _ (cut e _ _ n (b .0) _ _ _ _ (b .1)) f cs in
       (c .0, c .1, right is false _ s (c .2) p)
   right (power-stops n cs ∷ is) true v s h p = let z : _≡_ {A = ℕ} 0 1 = cc in absurd (omega arith)
   right (whole t ∷ is) false v s h p = let z : _≡_ {A = ℕ} 0 1 = cc in absurd (omega arith)
   right (whole t ∷ is) true v s h p =
-      let b = obeys v s t (h .0) (h .1) in
+      let b = obeys (length is) v s t (h .0) (h .1) in
       let f = ends e _ _ (b .0) _ _ _ _ (b .2) in
       (b .0, b .1, f .0, right is true _ (b .1) (f .1, f .2) p)
   right (stops t n cs ∷ is) false v s h p = let z : _≡_ {A = ℕ} 0 1 = cc in absurd (omega arith)
   right (stops t n cs ∷ is) true v s h p =
-      let b = obeys v s t (h .0) (h .1) in
+      let b = obeys (length is) v s t (h .0) (h .1) in
       let f = ends e _ _ (b .0) _ _ _ _ (b .2) in
-      let c = halfway s t (b .1) _ _ (cut e _ _ n (b .0) _ _ _ _ (b .2)) f cs in
+      let c = halfway (length is) s t (b .1) _ _ (cut e _ _ n (b .0) _ _ _ _ (b .2)) f cs in
       (c .0, c .1, right is false _ (after (c .0)) (c .2) p)

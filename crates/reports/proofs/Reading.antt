@@ -4,7 +4,7 @@ use mathlib.Core.Bool.{Bool, true, false, _&&_}
 use mathlib.Core.List.{List, [], _∷_, _++_, append-assoc, append-nil}
 use Prim.Native.Nat.{ℕ, zero, suc, _+_, _-_, _≤_, _<_}
 use native.Mathlib.Omega.{arith}
-use lib.Dec.{eqb, ltb, leb}
+use lib.Dec.{eqb, ltb, leb, lit<, leb·suc-suc}
 use lib.ListN.{length}
 use Rattle.std.proofs.shelf.Tests.{and-parts, and-from, ltb-true, leb-true, lt-ltb, le-leb}
 use Rattle.pages.specs.Lists.{pick, or, none-of, every}
@@ -13,9 +13,9 @@ use Rattle.pages.proofs.Bytes.{eight-is-bytes}
 use Rattle.questions.specs.Query.{Query}
 use Rattle.questions.specs.Spelling.{query-spelled, query-fits, size, a-word, a-question}
 use Rattle.questions.specs.Reading.{Read, nothing, got, then, only, read-byte, read-number, read-bytes, read-query, Asked}
-use Rattle.questions.proofs.Reading.{then-on, pick-got, got-same, choose, every-append, every-both, Sound, step, sound-only, reads-only, reads-number, sound-number, reads-bytes, sound-bytes, sound-byte, with-length-bytes, word-bytes, reads-query, sound-query, asked-spelled, Asks, query-bytes}
+use Rattle.questions.proofs.Reading.{then-on, pick-got, got-same, choose, every-append, every-both, Sound, step, sound-only, reads-only, reads-number, sound-number, reads-within, sound-within, reads-bytes, sound-bytes, sound-byte, with-length-bytes, word-bytes, reads-query, sound-query, asked-spelled, Asks, query-bytes}
 use Rattle.reports.specs.Command.{Command, put, remove, note, ask, how-many, fetch, list-words, sweep, spelled, fits}
-use Rattle.reports.specs.Reading.{Reading, no-command, a-command, read-limit, read-title, read-body, read-beginning, read-kind, all-of-it, read-command}
+use Rattle.reports.specs.Reading.{Reading, no-command, a-command, read-limit, read-text, read-beginning, read-kind, all-of-it, read-command}
 use Rattle.reports.specs.Promise.{Said}
 
 abbrev big : ℕ
@@ -25,24 +25,11 @@ big = 18446744073709551616
 abbrev a-limit : ℕ → Bool
 a-limit k = leb 1 k && leb k 1000
 
-abbrev a-title : List ℕ → Bool
-a-title t = leb (length t) 255
-
-abbrev a-body : List ℕ → Bool
-a-body b = ltb (length b) 65536
+abbrev at-most : ℕ → List ℕ → Bool
+at-most most t = leb (length t) most
 
 abbrev a-beginning : List ℕ → Bool
 a-beginning p = or (none-of p) (a-word p)
-
-reads-limit : (k : ℕ) (rest : List ℕ) → a-limit k ≡ true → read-limit (eight k ++ rest) ≡ got k rest
-unfolding read-limit
-reads-limit k rest h =
-    let e = and-parts (leb 1 k) (leb k 1000) h in
-    reads-only eight read-number a-limit k rest (reads-number k rest (omega (arith, leb-true k 1000 (e .1)))) h
-
-sound-limit : Sound eight (λ k. a-limit k ≡ true) read-limit
-unfolding read-limit
-sound-limit bs k rest ok h = let s = sound-only eight _ read-number a-limit sound-number bs k rest ok h in (s .0, s .1 .1)
 
 -- bytes with their count that pass a test
 reads-tested : (p : List ℕ → Bool) (xs rest : List ℕ) → p xs ≡ true → length xs < big → then (read-bytes (with-length xs ++ rest)) (only p) ≡ got xs rest
@@ -74,37 +61,37 @@ sound-question bs a rest ok h =
 
 -- A COMMAND THAT WAS SPELLED IS READ
 reads-command : (c : Command) (rest : List ℕ) → fits c ≡ true → then (read-byte (spelled c ++ rest)) read-kind ≡ got c rest
-unfolding spelled fits read-kind read-title read-body read-beginning
+unfolding spelled fits read-kind read-text read-beginning
 reads-command (put n t b) rest fit =
-    let e = and-parts (ltb n big && (a-title t && all-bytes t)) (a-body b && all-bytes b) fit in
-    let e₁ = and-parts (ltb n big) (a-title t && all-bytes t) (e .0) in
-    let t₁ = and-parts (a-title t) (all-bytes t) (e₁ .1) .0 in
-    let b₁ = and-parts (a-body b) (all-bytes b) (e .1) .0 in
+    let e = and-parts (ltb n big && (at-most 255 t && all-bytes t)) (ltb (length b) 65536 && all-bytes b) fit in
+    let e₁ = and-parts (ltb n big) (at-most 255 t && all-bytes t) (e .0) in
+    let t₁ = and-parts (at-most 255 t) (all-bytes t) (e₁ .1) .0 in
+    let b₁ = and-parts (ltb (length b) 65536) (all-bytes b) (e .1) .0 in
     then-on _ (ap read-number (append-assoc (eight n ++ with-length t) (with-length b) rest ∙ append-assoc (eight n) (with-length t) (with-length b ++ rest))
     ∙ reads-number n (with-length t ++ (with-length b ++ rest)) (ltb-true n big (e₁ .0)))
-    ∙ then-on _ (reads-tested a-title t (with-length b ++ rest) t₁ (omega (arith, leb-true (length t) 255 t₁)))
-    ∙ then-on _ (reads-tested a-body b rest b₁ (omega (arith, ltb-true (length b) 65536 b₁)))
+    ∙ then-on _ (reads-tested (at-most 255) t (with-length b ++ rest) t₁ (omega (arith, leb-true (length t) 255 t₁)))
+    ∙ then-on _ (reads-tested (at-most 65535) b rest (sym (leb·suc-suc (length b) 65535) ∙ b₁) (omega (arith, ltb-true (length b) 65536 b₁)))
 reads-command (remove n) rest fit = then-on _ (reads-number n rest (ltb-true n big fit))
 reads-command note rest fit = refl
 reads-command (ask k q) rest fit =
     let e = and-parts (a-limit k) (a-question q) fit in
-    then-on _ (ap read-limit (append-assoc (eight k) (query-spelled q) rest) ∙ reads-limit k (query-spelled q ++ rest) (e .0)) ∙ then-on _ (reads-question q rest (e .1))
+    then-on _ (ap read-limit (append-assoc (eight k) (query-spelled q) rest) ∙ reads-within 1 1000 k (query-spelled q ++ rest) (lit< tt) (e .0)) ∙ then-on _ (reads-question q rest (e .1))
 reads-command (how-many q) rest fit = then-on _ (reads-question q rest fit)
 reads-command (fetch n) rest fit = then-on _ (reads-number n rest (ltb-true n big fit))
 reads-command (list-words p k) rest fit =
     let e = and-parts (a-limit k) (a-beginning p) fit in
     then-on _ (ap (λ x. then (read-bytes x) (only a-beginning)) (append-assoc (with-length p) (eight k) rest)
     ∙ reads-tested a-beginning p (eight k ++ rest) (e .1) (beginning-is p (e .1) .0))
-    ∙ then-on _ (reads-limit k rest (e .0))
+    ∙ then-on _ (reads-within 1 1000 k rest (lit< tt) (e .0))
 reads-command sweep rest fit = refl
 
 spelled-bytes : (c : Command) → fits c ≡ true → all-bytes (spelled c) ≡ true
 unfolding spelled fits
 spelled-bytes (put n t b) fit =
-    let e = and-parts (ltb n big && (a-title t && all-bytes t)) (a-body b && all-bytes b) fit in
-    let t₁ = and-parts (a-title t) (all-bytes t) (and-parts (ltb n big) _ (e .0) .1) .1 in
+    let e = and-parts (ltb n big && (at-most 255 t && all-bytes t)) (ltb (length b) 65536 && all-bytes b) fit in
+    let t₁ = and-parts (at-most 255 t) (all-bytes t) (and-parts (ltb n big) _ (e .0) .1) .1 in
     every-both _ (eight n ++ with-length t) (with-length b) (every-both _ (eight n) (with-length t) (eight-is-bytes n) (with-length-bytes t t₁))
-    (with-length-bytes b (and-parts (a-body b) (all-bytes b) (e .1) .1))
+    (with-length-bytes b (and-parts (ltb (length b) 65536) (all-bytes b) (e .1) .1))
 spelled-bytes (remove n) fit = eight-is-bytes n
 spelled-bytes note fit = refl
 spelled-bytes (ask k q) fit =
@@ -131,16 +118,16 @@ abbrev Stands : ℕ → List ℕ → Command → List ℕ → Type 0
 Stands kind bs c rest = (spelled c ++ rest ≡ kind ∷ bs) × (fits c ≡ true)
 
 stands-put : (bs : List ℕ) (c : Command) (rest : List ℕ) → all-bytes bs ≡ true →
-    then (read-number bs) (λ n rest₁. then (read-title rest₁) (λ t rest₂. then (read-body rest₂) (λ b rest₃. got (put n t b) rest₃))) ≡ got c rest → Stands 1 bs c rest
-unfolding spelled fits read-title read-body
+    then (read-number bs) (λ n rest₁. then (read-text 255 rest₁) (λ t rest₂. then (read-text 65535 rest₂) (λ b rest₃. got (put n t b) rest₃))) ≡ got c rest → Stands 1 bs c rest
+unfolding spelled fits read-text
 stands-put bs c rest ok h =
     let g = step eight _ read-number sound-number _ bs c rest ok h in
-    let k = step with-length _ read-title (sound-tested a-title) _ (g .1) c rest (g .4) (g .6) in
-    let m = step with-length _ read-body (sound-tested a-body) _ (k .1) c rest (k .4) (k .6) in
+    let k = step with-length _ (read-text 255) (sound-tested (at-most 255)) _ (g .1) c rest (g .4) (g .6) in
+    let m = step with-length _ (read-text 65535) (sound-tested (at-most 65535)) _ (k .1) c rest (k .4) (k .6) in
     got-same (Stands 1 bs) (m .6) (
       ap (λ r. 1 ∷ r) (append-assoc (eight (g .0) ++ with-length (k .0)) (with-length (m .0)) (m .1) ∙ append-assoc (eight (g .0)) (with-length (k .0)) (with-length (m .0) ++ m .1)
           ∙ ap (λ r. eight (g .0) ++ (with-length (k .0) ++ r)) (m .2) ∙ ap (λ r. eight (g .0) ++ r) (k .2) ∙ g .2),
-      and-from _ _ (and-from _ _ (lt-ltb (g .0) big (g .5)) (and-from _ _ (k .5) (bytes-of (k .0) (k .3)))) (and-from _ _ (m .5) (bytes-of (m .0) (m .3))),
+      and-from _ _ (and-from _ _ (lt-ltb (g .0) big (g .5)) (and-from _ _ (k .5) (bytes-of (k .0) (k .3)))) (and-from _ _ (leb·suc-suc (length (m .0)) 65535 ∙ m .5) (bytes-of (m .0) (m .3))),
     )
 
 -- one part, and then two, of a command
@@ -172,12 +159,12 @@ sound-kind kind bs c rest ok h =
     (λ h₁. choose kind 2 _ _ c rest h₁ (λ e i. at 2 e (stands-one 2 eight _ read-number sound-number remove (λ n l. (refl, lt-ltb n big l)) bs c rest ok i))
     (λ h₂. choose kind 3 _ _ c rest h₂ (λ e i. at 3 e (got-same (Stands 3 bs) i (refl, refl)))
     (λ h₃. choose kind 4 _ _ c rest h₃
-    (λ e i. at 4 e (stands-two 4 eight _ read-limit sound-limit asked-spelled _ (read-query 31 31) sound-question (λ k a. ask k (a .query)) (λ k a t u. (refl, and-from _ _ t u)) bs c rest ok i))
+    (λ e i. at 4 e (stands-two 4 eight _ read-limit (sound-within 1 1000) asked-spelled _ (read-query 31 31) sound-question (λ k a. ask k (a .query)) (λ k a t u. (refl, and-from _ _ t u)) bs c rest ok i))
     (λ h₄. choose kind 5 _ _ c rest h₄
     (λ e i. at 5 e (stands-one 5 asked-spelled _ (read-query 31 31) sound-question (λ a. how-many (a .query)) (λ a t. (refl, t)) bs c rest ok i))
     (λ h₅. choose kind 6 _ _ c rest h₅ (λ e i. at 6 e (stands-one 6 eight _ read-number sound-number fetch (λ n l. (refl, lt-ltb n big l)) bs c rest ok i))
     (λ h₆. choose kind 7 _ _ c rest h₆
-    (λ e i. at 7 e (stands-two 7 with-length _ _ (sound-tested a-beginning) eight _ read-limit sound-limit list-words (λ p k t u. (refl, and-from _ _ u t)) bs c rest ok i))
+    (λ e i. at 7 e (stands-two 7 with-length _ _ (sound-tested a-beginning) eight _ read-limit (sound-within 1 1000) list-words (λ p k t u. (refl, and-from _ _ u t)) bs c rest ok i))
     (λ h₇. choose kind 8 _ nothing c rest h₇ (λ e i. at 8 e (got-same (Stands 8 bs) i (refl, refl)))
     (λ h₈. let z : _≡_ {A = ℕ} 0 1 = cc in absurd (omega arith)))))))))
 

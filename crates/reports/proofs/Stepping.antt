@@ -6,27 +6,30 @@ use mathlib.Core.Logic.{_⊎_, inl, inr}
 use Prim.Native.Nat.{ℕ, zero, suc, _+_, _-_, _≤_, _<_}
 use native.Mathlib.Omega.{arith}
 use lib.Dec.{eqb, leb}
-use lib.ListN.{length, set, drop}
+use lib.ListN.{length, drop}
 use borrow.Author.Tests.{eq-eqb, ne-eqb, le-leb, lt-leb}
 use Rattle.pages.proofs.Device.{length-zeros}
 use Rattle.reports.specs.Run.{Event, Step}
 use Rattle.reports.specs.Moves.{Moved, goes, acts, after-move, moves}
-use Rattle.reports.specs.Machine.{St, move, store, load, load-registers, phase-number, told, most-moves, cells, after-event, own, own-step}
+use Rattle.pages.specs.Places.{written}
+use Rattle.reports.specs.Registers.{register-numbers, register-count, registers-in}
+use Rattle.reports.specs.Machine.{St, move, store, load, told, most-moves, cells, after-event, own, own-step}
 use Rattle.reports.specs.Entry.{step-fits, Act-told}
-use Rattle.reports.specs.Stepping.{state, Moved-so, Step-is}
+use Rattle.reports.specs.Stepping.{state, Moved-so, Move-says, Step-is, Moves-say}
 use Rattle.reports.specs.declared.registers.Registers.{Registers}
 use Rattle.reports.specs.declared.Told.{Told}
+use Rattle.reports.specs.declared.Told.the-variants.{Flush}
 use Rattle.std.specs.declared.option.Option.the-variants.{Some, None}
 
--- a move without an act: the moves that are left go on from where it led
-pub moved-on : (m : Moved St) (rest : List ℕ) (r : Registers) (f : ℕ) → Moved-so m rest None r → after-move store (moves store move f) m ≡ moves store move f (state r rest)
-moved-on (goes st) rest r f h = ap (moves store move f) h
-moved-on (acts st a) rest r f h = absurd (omega (arith, h))
+-- a move without an act: the moves that are left go on from where it led, and the lent row is as it was
+pub moved-on : (m : Moved St) (rest out out₁ : List ℕ) (r : Registers) (f : ℕ) → Moved-so m rest out None r out₁ → (after-move store (moves store move f) m ≡ moves store move f (state r rest)) × (out₁ ≡ out)
+moved-on (goes st) rest out out₁ r f h = (ap (moves store move f) (h .0), h .1)
+moved-on (acts st a) rest out out₁ r f h = absurd (omega (arith, h))
 
 -- a move with an act ends the step
-pub moved-out : (m : Moved St) (rest : List ℕ) (t : Told) (r : Registers) (f : ℕ) → Moved-so m rest (Some t) r → Step-is (after-move store (moves store move f) m) rest t r
-moved-out (goes st) rest t r f h = absurd (omega (arith, h))
-moved-out (acts st a) rest t r f h = (ap store (h .0), h .1)
+pub moved-out : (m : Moved St) (rest out out₁ : List ℕ) (t : Told) (r : Registers) (f : ℕ) → Moved-so m rest out (Some t) r out₁ → Step-is (after-move store (moves store move f) m) rest out t r out₁
+moved-out (goes st) rest out out₁ t r f h = absurd (omega (arith, h))
+moved-out (acts st a) rest out out₁ t r f h = (ap store (h .0), h .1)
 
 pub one-more : (f : ℕ) (st : St) → moves store move (suc f) st ≡ after-move store (moves store move f) (move st)
 unfolding moves
@@ -39,12 +42,30 @@ turned r₀ r rest i h inv =
     let e : suc (most-moves - (i + 1)) ≡ most-moves - i = omega arith in
     sym (one-more (most-moves - (i + 1)) _) ∙ ap (λ n. moves store move n (state r rest)) e ∙ inv
 
--- the registers put back one by one stand before what was behind them
-pub three-set : (m : List ℕ) (a b c : ℕ) → 3 ≤ length m → set (set (set m 0 a) 1 b) 2 c ≡ a ∷ b ∷ c ∷ drop 3 m
-three-set [] a b c h = absurd (omega (arith, h))
-three-set (x ∷ []) a b c h = absurd (omega (arith, h))
-three-set (x ∷ y ∷ []) a b c h = absurd (omega (arith, h))
-three-set (x ∷ y ∷ z ∷ m) a b c h = refl
+-- A TURN OF THE LOOP: with so many moves made and none of them an act, one more is an act, or the count is out, or there is none
+pub record Turns-left (r₀ r : Registers) (out₀ out : List ℕ) (i : ℕ) : Type 0 where
+  pub row-is : out ≡ out₀
+  pub come-to : (rest : List ℕ) → moves store move (most-moves - i) (state r rest) ≡ moves store move most-moves (state r₀ rest)
+
+pub turn-acts : (r₀ r r₁ : Registers) (out₀ out out₁ : List ℕ) (i : ℕ) (t : Told) → Turns-left r₀ r out₀ out i → i < most-moves →
+    ((rest : List ℕ) → Move-says r rest out (Some t) r₁ out₁) → (rest : List ℕ) → Moves-say r₀ rest out₀ t r₁ out₁
+turn-acts r₀ r r₁ out₀ out out₁ i t inv h says rest =
+    subst (λ (o : List ℕ). Step-is (moves store move most-moves (state r₀ rest)) rest o t r₁ out₁) (inv .row-is)
+    (subst (λ (s : Step). Step-is s rest out t r₁ out₁) (turned r₀ r rest i h (inv .come-to rest))
+    (moved-out (move (state r rest)) rest out out₁ t r₁ (most-moves - (i + 1)) (says rest)))
+
+pub turn-goes : (r₀ r r₁ : Registers) (out₀ out out₁ : List ℕ) (i : ℕ) → Turns-left r₀ r out₀ out i → i < most-moves →
+    ((rest : List ℕ) → Move-says r rest out None r₁ out₁) → Turns-left r₀ r₁ out₀ out₁ (i + 1)
+turn-goes r₀ r r₁ out₀ out out₁ i inv h says =
+    let on : (rest : List ℕ) → (after-move store (moves store move (most-moves - (i + 1))) (move (state r rest)) ≡ moves store move (most-moves - (i + 1)) (state r₁ rest)) × (out₁ ≡ out) =
+    λ rest. moved-on (move (state r rest)) rest out out₁ r₁ (most-moves - (i + 1)) (says rest) in
+    record { row-is = on [] .1 ∙ inv .row-is; come-to = λ rest. sym (on rest .0) ∙ turned r₀ r rest i h (inv .come-to rest) }
+
+pub turns-out : (r₀ r : Registers) (out₀ out : List ℕ) (i : ℕ) → Turns-left r₀ r out₀ out i → most-moves ≤ i → (rest : List ℕ) → Moves-say r₀ rest out₀ Flush r out
+unfolding moves Act-told
+turns-out r₀ r out₀ out i inv h rest =
+    let e : 0 ≡ most-moves - i = omega arith in
+    subst (λ (s : Step). Step-is s rest out₀ Flush r out) (ap (λ n. moves store move n (state r rest)) e ∙ inv .come-to rest) (refl, (refl, inv .row-is))
 
 -- the engine's own length, as the step compares it
 pub own-length : length (own .start) ≡ cells
@@ -71,12 +92,12 @@ unfolding own own-step
 step-at m ev h = simp (eq-eqb (length m) cells h)
 
 -- A STEP FROM ITS PARTS: the registers taken from memory and told of the event, moves until there is an act, the registers put back
-pub stepped : (m : List ℕ) (ev : Event) (r₀ r : Registers) (t : Told) (m₁ out : List ℕ) → length m ≡ cells → r₀ ≡ told (load-registers m) ev →
-    Step-is (moves store move most-moves (state r₀ (drop 3 m))) (drop 3 m) t r → m₁ ≡ set (set (set m 0 (phase-number (r .phase))) 1 (r .reply)) 2 (r .pages) →
-    (m₁ ≡ own .step m ev .memory) × Act-told (own .step m ev .act) t out out
-unfolding load store
-stepped m ev r₀ r t m₁ out h is does put =
-    let long : 3 ≤ length m = omega arith in
-    let whole : moves store move most-moves (state r₀ (drop 3 m)) ≡ own .step m ev = ap (λ x. moves store move most-moves (state x (drop 3 m))) is ∙ sym (step-at m ev h) in
-    let d : Step-is (own .step m ev) (drop 3 m) t r = subst (λ (s : Step). Step-is s (drop 3 m) t r) whole does in
-    (put ∙ three-set m _ _ _ long ∙ sym (d .0), d .1 out)
+pub stepped : (m : List ℕ) (ev : Event) (r₀ r : Registers) (t : Told) (m₁ out out₁ : List ℕ) → length m ≡ cells → r₀ ≡ told (registers-in m) ev →
+    Step-is (moves store move most-moves (state r₀ (drop register-count m))) (drop register-count m) out t r out₁ → m₁ ≡ written m 0 (register-numbers r) →
+    (m₁ ≡ own .step m ev .memory) × Act-told (own .step m ev .act) t out out₁
+unfolding load store written
+stepped m ev r₀ r t m₁ out out₁ h is does put =
+    let rest : List ℕ = drop register-count m in
+    let whole : moves store move most-moves (state r₀ rest) ≡ own .step m ev = ap (λ x. moves store move most-moves (state x rest)) is ∙ sym (step-at m ev h) in
+    let d : Step-is (own .step m ev) rest out t r out₁ = subst (λ (s : Step). Step-is s rest out t r out₁) whole does in
+    (put ∙ sym (d .0), d .1)

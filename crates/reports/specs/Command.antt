@@ -39,9 +39,20 @@ fits (fetch n) = ltb n 18446744073709551616
 fits (list-words p k) = (leb 1 k && leb k 1000) && or (none-of p) (a-word p)
 fits sweep = true
 
--- what is known so far: no command yet
+-- nothing is known
 abbrev pub none : Command → Bool
 none c = false
+
+-- what is known so far: remove, note and fetch
+abbrev pub finding : Command → Bool
+finding (put n t b) = false
+finding (remove n) = true
+finding note = true
+finding (ask k q) = false
+finding (how-many q) = false
+finding (fetch n) = true
+finding (list-words p k) = false
+finding sweep = false
 
 -- the small core: asking and counting by words and "both", and keeping documents
 unfoldable pub core-query : Query → Bool

@@ -1,8 +1,10 @@
 pub mod Command
 pub mod Reading
+pub mod Request
 pub mod Plain
 pub mod Run
 pub mod Moves
+pub mod Registers
 pub mod Machine
 pub mod Entry
 pub mod Stepping

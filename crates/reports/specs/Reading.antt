@@ -1,13 +1,13 @@
 -- Reading a command from bytes. Assumes nothing: these are definitions.
-use mathlib.Core.Bool.{Bool, _&&_}
+use mathlib.Core.Bool.{Bool, true, false}
 use mathlib.Core.List.{List, [], _∷_}
 use Prim.Native.Nat.{ℕ}
-use lib.Dec.{eqb, ltb, leb}
+use lib.Dec.{eqb, leb}
 use lib.ListN.{length}
 use Rattle.pages.specs.Lists.{pick, or, none-of}
 use Rattle.pages.specs.Bytes.{all-bytes}
 use Rattle.questions.specs.Spelling.{a-word}
-use Rattle.questions.specs.Reading.{Read, nothing, got, then, only, read-byte, read-number, read-bytes, read-query, Asked}
+use Rattle.questions.specs.Reading.{Read, nothing, got, then, only, read-byte, read-number, read-within, read-bytes, read-query, Asked}
 use Rattle.reports.specs.Command.{Command, put, remove, note, ask, how-many, fetch, list-words, sweep}
 
 pub data Reading : Type 0 where
@@ -15,14 +15,12 @@ pub data Reading : Type 0 where
   a-command : Command → Reading
 
 -- how many hits or words are wanted: 1 to 1,000
-unfoldable pub read-limit : List ℕ → Read ℕ
-read-limit bs = then (read-number bs) (only (λ k. leb 1 k && leb k 1000))
+abbrev pub read-limit : List ℕ → Read ℕ
+read-limit bs = read-within 1 1000 bs
 
-unfoldable pub read-title : List ℕ → Read (List ℕ)
-read-title bs = then (read-bytes bs) (only (λ t. leb (length t) 255))
-
-unfoldable pub read-body : List ℕ → Read (List ℕ)
-read-body bs = then (read-bytes bs) (only (λ b. ltb (length b) 65536))
+-- bytes with their count, at most so many: a title has at most 255, a body at most 65,535
+unfoldable pub read-text : ℕ → List ℕ → Read (List ℕ)
+read-text most bs = then (read-bytes bs) (only (λ t. leb (length t) most))
 
 -- how words begin: like a word, or empty
 unfoldable pub read-beginning : List ℕ → Read (List ℕ)
@@ -31,7 +29,7 @@ read-beginning bs = then (read-bytes bs) (only (λ p. or (none-of p) (a-word p))
 unfoldable pub read-kind : ℕ → List ℕ → Read Command
 read-kind kind bs =
     pick (eqb kind 1)
-    (then (read-number bs) (λ n rest. then (read-title rest) (λ t rest₁. then (read-body rest₁) (λ b rest₂. got (put n t b) rest₂))))
+    (then (read-number bs) (λ n rest. then (read-text 255 rest) (λ t rest₁. then (read-text 65535 rest₁) (λ b rest₂. got (put n t b) rest₂))))
     (pick (eqb kind 2) (then (read-number bs) (λ n rest. got (remove n) rest))
     (pick (eqb kind 3) (got note bs)
     (pick (eqb kind 4) (then (read-limit bs) (λ k rest. then (read-query 31 31 rest) (λ a rest₁. got (ask k (a .query)) rest₁)))
@@ -39,6 +37,17 @@ read-kind kind bs =
     (pick (eqb kind 6) (then (read-number bs) (λ n rest. got (fetch n) rest))
     (pick (eqb kind 7) (then (read-beginning bs) (λ p rest. then (read-limit rest) (λ k rest₁. got (list-words p k) rest₁)))
     (pick (eqb kind 8) (got sweep bs) nothing)))))))
+
+-- what is read, if nothing comes after it; and whether it is so
+abbrev pub last : {A : Type 0} → Read A → Read A
+last nothing = nothing
+last (got a []) = got a []
+last (got a (b ∷ bs)) = nothing
+
+abbrev pub is-whole : {A : Type 0} → Read A → Bool
+is-whole nothing = false
+is-whole (got a []) = true
+is-whole (got a (b ∷ bs)) = false
 
 -- nothing may be left over
 abbrev pub all-of-it : Read Command → Reading

@@ -9,8 +9,8 @@ use Rattle.reports.specs.Moves.{Moved, goes, acts, moves}
 use Rattle.reports.specs.Machine.{St, move, store, most-moves}
 use Rattle.reports.specs.Entry.{Act-told}
 use Rattle.reports.specs.declared.registers.Registers.{Registers}
-use Rattle.reports.specs.declared.machine.Event.{Event as Heard}
-use Rattle.reports.specs.declared.machine.Event.the-variants.{On, Said, Page, Next}
+use Rattle.reports.specs.declared.events.Event.{Event as Heard}
+use Rattle.reports.specs.declared.events.Event.the-variants.{On, Said, Page, Next}
 use Rattle.reports.specs.declared.Told.{Told}
 use Rattle.std.specs.declared.option.Option.{Option}
 use Rattle.std.specs.declared.option.Option.the-variants.{Some, None}
@@ -24,21 +24,18 @@ event-told Next = next
 abbrev pub state : Registers → List ℕ → St
 state r rest = record { registers = r; rest = rest }
 
--- an act of the machine as it is told, with nothing in the lent row
-abbrev pub Bare : Act → Told → Type 0
-Bare a t = (out : List ℕ) → Act-told a t out out
+-- a move as it is told: an act, or none; and what stands in the lent row
+abbrev pub Moved-so : Moved St → List ℕ → (out : List ℕ) → Option Told → Registers → (out₁ : List ℕ) → Type 0
+Moved-so (goes st) rest out None r out₁ = (st ≡ state r rest) × (out₁ ≡ out)
+Moved-so (goes st) rest out (Some t) r out₁ = zero ≡ suc zero
+Moved-so (acts st a) rest out None r out₁ = zero ≡ suc zero
+Moved-so (acts st a) rest out (Some t) r out₁ = (st ≡ state r rest) × Act-told a t out out₁
 
-abbrev pub Moved-so : Moved St → List ℕ → Option Told → Registers → Type 0
-Moved-so (goes st) rest None r = st ≡ state r rest
-Moved-so (goes st) rest (Some t) r = zero ≡ suc zero
-Moved-so (acts st a) rest None r = zero ≡ suc zero
-Moved-so (acts st a) rest (Some t) r = (st ≡ state r rest) × Bare a t
+abbrev pub Move-says : Registers → List ℕ → (out : List ℕ) → Option Told → Registers → (out₁ : List ℕ) → Type 0
+Move-says r rest out t r₁ out₁ = Moved-so (move (state r rest)) rest out t r₁ out₁
 
-abbrev pub Move-says : Registers → List ℕ → Option Told → Registers → Type 0
-Move-says r rest t r₁ = Moved-so (move (state r rest)) rest t r₁
+abbrev pub Step-is : Step → List ℕ → (out : List ℕ) → Told → Registers → (out₁ : List ℕ) → Type 0
+Step-is s rest out t r out₁ = (s .memory ≡ store (state r rest)) × Act-told (s .act) t out out₁
 
-abbrev pub Step-is : Step → List ℕ → Told → Registers → Type 0
-Step-is s rest t r = (s .memory ≡ store (state r rest)) × Bare (s .act) t
-
-abbrev pub Moves-say : Registers → List ℕ → Told → Registers → Type 0
-Moves-say r rest t r₁ = Step-is (moves store move most-moves (state r rest)) rest t r₁
+abbrev pub Moves-say : Registers → List ℕ → (out : List ℕ) → Told → Registers → (out₁ : List ℕ) → Type 0
+Moves-say r rest out t r₁ out₁ = Step-is (moves store move most-moves (state r rest)) rest out t r₁ out₁

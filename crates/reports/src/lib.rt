@@ -1,10 +1,14 @@
 // The engine as a machine: one step at a time, told one thing and doing one act.
+mod events;
 mod machine;
 mod reader;
 mod registers;
+mod starting;
 pub mod theorems;
 
 pub use machine::step;
+pub use reader::Request;
+pub use reader::read_command;
 pub use registers::CELLS;
 
 // What one step of the engine does, and what the world outside is to do about it.

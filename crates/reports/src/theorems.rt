@@ -1,12 +1,12 @@
 // The engine's promises: theorems, each on the contract of a function that has its name, so that the crate is proved only with its proof.
-ghost use Rattle.reports.specs.Command.{none};
+ghost use Rattle.reports.specs.Command.{finding};
 ghost use Rattle.reports.specs.Examples.{Examples-hold};
 ghost use Rattle.reports.specs.Machine.{own};
 ghost use Rattle.reports.specs.Promise.{Whole, Spelled-once, Found-in-order, Any-order, Worth-bounded, Phrase-words, Sets, Same-till-noted, Fair, Flushed-stays};
 
 // THE MAIN PROMISE: on every device, whatever is said and whenever power stops, the engine does what the plain engine does.
 pub fn whole() -> u8
-    ensures { λ _. ⌜ Whole none own ⌝ }
+    ensures { λ _. ⌜ Whole finding own ⌝ }
 {
     0
 }

@@ -17,12 +17,13 @@ use Rattle.pages.specs.Lists.{pick, flat, zeros}
 use Rattle.pages.specs.Bytes.{in-bytes, all-bytes, from-eight}
 use Rattle.pages.specs.Device.{Page, a-page}
 use Rattle.pages.proofs.Bytes.{length-in-bytes, in-bytes-bytes, from-in-bytes}
-use Rattle.pages.proofs.Folds.{added-up-append}
-use Rattle.pages.proofs.Lists.{every-append, every-take, every-drop}
+use Rattle.pages.proofs.Folds.{added-up-append, every-append}
+use Rattle.pages.proofs.Places.{from-eight-below}
+use Rattle.pages.proofs.Lists.{every-join, every-take, every-drop}
 use Rattle.pages.proofs.Device.{length-zeros, zeros-bytes}
 use Rattle.rows.specs.Rows.{Row, Row-fits, Stand, row-bytes, row-size, rows-size, page-of, used, rows-end, begins, row-in, stand, row-at, and-then, rows-in, rows-of, room-for, with-row}
 use Rattle.rows.specs.Laws.{Pages-stand}
-use Rattle.pages.proofs.Bytewise.{flat-append, in-bytes-before, all-bytes-parts, from-eight-bound, drop-zeros, first-two}
+use Rattle.pages.proofs.Bytewise.{flat-append, in-bytes-before, drop-zeros, first-two}
 
 -- THE BYTES of a row
 pub length-row : (r : Row) → length (row-bytes r) ≡ row-size r
@@ -66,7 +67,7 @@ module _ (ks ds ps bs : List ℕ) (four : length ds ≡ 4) (two : length ps ≡ 
       ap (take (length ks + 6)) e ∙ take-at (ks ++ (ds ++ ps)) bs (length ks + 6) (simp length-append (omega arith))
 
   whole-bytes : all-bytes (take (length ks + 6) rest) ≡ (all-bytes ks && (all-bytes ds && all-bytes ps))
-  whole-bytes = ap all-bytes take-whole ∙ all-bytes-parts ks (ds ++ ps) ∙ ap (λ t. all-bytes ks && t) (all-bytes-parts ds ps)
+  whole-bytes = ap all-bytes take-whole ∙ every-append (λ c. ltb c 256) ks (ds ++ ps) ∙ ap (λ t. all-bytes ks && t) (every-append (λ c. ltb c 256) ds ps)
 
   pub row-in-parts : length ks ≤ 64 → all-bytes ks ≡ true → all-bytes ds ≡ true → all-bytes ps ≡ true →
       row-in (length ks ∷ rest) ≡ Some (record { key = ks; doc = from-eight 0 ds; place = from-eight 0 ps })
@@ -110,6 +111,10 @@ part a k n bs h w =
     let e : take k (drop a (take n bs)) ≡ take k (drop a bs) = ap (λ m. take k (drop a (take m bs))) (omega arith) ∙ ap (take k) (drop-take a (n - a) bs) ∙ take-take k (n - a) (drop a bs) (omega arith) in
     subst (λ (xs : List ℕ). all-bytes xs ≡ true) e (every-take (λ c. ltb c 256) k (drop a (take n bs)) (every-drop (λ c. ltb c 256) a (take n bs) w))
 
+-- what so many bytes spell
+pub bounded : (xs : List ℕ) (k : ℕ) → length xs ≡ k → all-bytes xs ≡ true → from-eight 0 xs < (0 + 1) * 256 ^ k
+bounded xs k l b = subst (λ (m : ℕ). from-eight 0 xs < (0 + 1) * 256 ^ m) l (from-eight-below xs 0 b)
+
 -- what is read fits, and does not go past the end of the list
 pub row-in-fits : (xs : List ℕ) (r : Row) → row-in xs ≡ Some r → Row-fits r × (row-size r ≤ length xs)
 unfolding row-in
@@ -131,8 +136,8 @@ row-in-fits (n ∷ bs) r h =
     let place : all-bytes (take 2 (drop (n + 4) bs)) ≡ true = part (n + 4) 2 (n + 6) bs (omega arith) whole in
     let ld : length (take 4 (drop n bs)) ≡ 4 = length-take-le 4 (drop n bs) (simp length-drop (omega arith)) in
     let lp : length (take 2 (drop (n + 4) bs)) ≡ 2 = length-take-le 2 (drop (n + 4) bs) (simp length-drop (omega arith)) in
-    let df : from-eight 0 (take 4 (drop n bs)) < 4294967296 = subst (λ (m : ℕ). from-eight 0 (take 4 (drop n bs)) < 256 ^ (0 + m)) ld (from-eight-bound (take 4 (drop n bs)) 0 0 doc (omega arith)) in
-    let pf : from-eight 0 (take 2 (drop (n + 4) bs)) < 65536 = subst (λ (m : ℕ). from-eight 0 (take 2 (drop (n + 4) bs)) < 256 ^ (0 + m)) lp (from-eight-bound (take 2 (drop (n + 4) bs)) 0 0 place (omega arith)) in
+    let df : from-eight 0 (take 4 (drop n bs)) < 4294967296 = bounded (take 4 (drop n bs)) 4 ld doc in
+    let pf : from-eight 0 (take 2 (drop (n + 4) bs)) < 65536 = bounded (take 2 (drop (n + 4) bs)) 2 lp place in
     subst (λ (x : Row). Row-fits x × (row-size x ≤ suc (length bs))) q
     (record { short = omega arith; bytes = key; doc-fits = df; place-fits = pf }, omega arith))
     (λ t. let e : None ≡ Some r = subst (λ (x : Bool). pick x (Some it) None ≡ Some r) t h in let z : _≡_ {A = ℕ} 0 1 = cc in absurd (omega arith))
@@ -214,17 +219,17 @@ row-is-bytes : (r : Row) → Row-fits r → all-bytes (row-bytes r) ≡ true
 unfolding row-bytes
 row-is-bytes r f =
     and-from _ _ (lt-ltb (length (r .key)) 256 (omega (arith, f .short)))
-    (every-append (λ c. ltb c 256) (r .key) _ (f .bytes) (in-bytes-bytes 4 (r .doc) _ (in-bytes-bytes 2 (r .place) [] refl)))
+    (every-join (λ c. ltb c 256) (r .key) _ (f .bytes) (in-bytes-bytes 4 (r .doc) _ (in-bytes-bytes 2 (r .place) [] refl)))
 
 rows-are-bytes : (rs : List Row) → All Row-fits rs → all-bytes (flat row-bytes rs) ≡ true
 rows-are-bytes [] f = refl
-rows-are-bytes (r ∷ rs) f = every-append (λ c. ltb c 256) (row-bytes r) (flat row-bytes rs) (row-is-bytes r (f .0)) (rows-are-bytes rs (f .1))
+rows-are-bytes (r ∷ rs) f = every-join (λ c. ltb c 256) (row-bytes r) (flat row-bytes rs) (row-is-bytes r (f .0)) (rows-are-bytes rs (f .1))
 
 pub page-is-a-page : (rs : List Row) → All Row-fits rs → rows-size rs ≤ 502 → a-page (page-of rs) ≡ true
 page-is-a-page rs f h =
     and-from _ _ (eq-eqb (length (page-of rs)) 512 (length-page rs h))
     (subst (λ (p : Page). all-bytes p ≡ true) (sym (page-holds rs h .is))
-    (in-bytes-bytes 2 (length (flat row-bytes rs)) _ (every-append (λ c. ltb c 256) (flat row-bytes rs) (zeros (510 - rows-size rs)) (rows-are-bytes rs f) (zeros-bytes (510 - rows-size rs)))))
+    (in-bytes-bytes 2 (length (flat row-bytes rs)) _ (every-join (λ c. ltb c 256) (flat row-bytes rs) (zeros (510 - rows-size rs)) (rows-are-bytes rs f) (zeros-bytes (510 - rows-size rs)))))
 
 -- the bytes from a row on
 bytes-from : (before : List Row) (r : Row) (after : List Row) → drop (rows-size before) (flat row-bytes (before ++ r ∷ after)) ≡ row-bytes r ++ flat row-bytes after

@@ -3,7 +3,7 @@ use mathlib.Core.Path.{_≡_, refl, sym, ap, subst, _∙_}
 use mathlib.Core.Bool.{Bool, true, false, _&&_}
 use mathlib.Core.List.{List, [], _∷_, _++_}
 use mathlib.Core.Logic.{_⊎_, inl, inr, ⊎-elim}
-use Prim.Native.Nat.{ℕ, _+_, _*_, _-_, _≤_, _<_, _^_}
+use Prim.Native.Nat.{ℕ, _+_, _*_, _-_, _≤_, _<_}
 use native.Mathlib.Omega.{arith}
 use lib.Dec.{leb, ltb}
 use lib.ListN.{length, getD, take, drop, length-take, length-drop, length-append}
@@ -16,13 +16,13 @@ use Rattle.std.proofs.shelf.Parts.{between-is}
 use Rattle.std.proofs.shelf.Tests.{cases-order}
 use Rattle.pages.specs.Lists.{pick, earlier}
 use Rattle.pages.specs.Bytes.{all-bytes, from-eight}
-use Rattle.pages.proofs.Bytewise.{from-eight-bound, from-eight-append, from-two, earlier-lower}
-use Rattle.pages.proofs.Lists.{same-is, every-append}
+use Rattle.pages.proofs.Bytewise.{from-eight-append, from-two, earlier-lower}
+use Rattle.pages.proofs.Lists.{same-is, every-join}
 use Rattle.words.specs.Compared.{Compared}
 use Rattle.rows.specs.Rows.{Row, row-size, rows-end, row-in, stand, row-at}
 use Rattle.rows.specs.Orders.{Rows-compared, Standing}
 use Rattle.rows.proofs.Ordered.{row-ext, less-from, rows-less, rows-more, rows-equal}
-use Rattle.rows.proofs.Read.{part, row-here, row-in-cells, row-in-few, row-in-too-long}
+use Rattle.rows.proofs.Read.{part, bounded, row-here, row-in-cells, row-in-few, row-in-too-long}
 
 -- the row that the part from the offset to the end begins with
 pub stands : (p : List ℕ) (at e : ℕ) → e ≡ rows-end p → row-at p at ≡ stand at (row-in (take (e - at) (drop at p)))
@@ -120,7 +120,7 @@ six-is : (ds ps : List ℕ) → length ps ≡ 2 → from-eight 0 (ds ++ ps) ≡ 
 six-is ds ps l = from-eight-append ds ps 0 ∙ from-two ps (from-eight 0 ds) l
 
 below-two : (ps : List ℕ) → length ps ≡ 2 → all-bytes ps ≡ true → from-eight 0 ps < 65536
-below-two ps l b = subst (λ (m : ℕ). from-eight 0 ps < 256 ^ (0 + m)) l (from-eight-bound ps 0 0 b (omega arith))
+below-two ps l b = bounded ps 2 l b
 
 -- of two lists of six bytes the earlier one has the lower document, or the same document and the lower place
 lower : (ds ps es qs : List ℕ) → length ds ≡ 4 → length ps ≡ 2 → length es ≡ 4 → length qs ≡ 2 → all-bytes ds ≡ true → all-bytes ps ≡ true → all-bytes qs ≡ true →
@@ -128,7 +128,7 @@ lower : (ds ps es qs : List ℕ) → length ds ≡ 4 → length ps ≡ 2 → len
 lower ds ps es qs a b c d f g h e =
     let l = length-append ds ps in
     let m = length-append es qs in
-    let less = earlier-lower (ds ++ ps) (es ++ qs) 0 (omega arith) (every-append (λ x. ltb x 256) ds ps f g) e in
+    let less = earlier-lower (ds ++ ps) (es ++ qs) 0 (omega arith) (every-join (λ x. ltb x 256) ds ps f g) e in
     let x = six-is ds ps b in
     let y = six-is es qs d in
     split (from-eight 0 ds) (from-eight 0 ps) (from-eight 0 es) (from-eight 0 qs) (below-two ps b g) (below-two qs d h) (omega arith)

@@ -2,15 +2,16 @@
 use mathlib.Core.Path.{_≡_, refl, sym, ap, subst, _∙_}
 use mathlib.Core.Bool.{Bool, true, false}
 use mathlib.Core.List.{List, [], _∷_}
-use Prim.Native.Nat.{ℕ, zero, suc, _+_, _≤_, _<_, min}
+use Prim.Native.Nat.{ℕ, zero, suc, _+_, _<_, min}
 use native.Mathlib.Omega.{arith}
 use lib.ListN.{length, drop, getD}
 use Rattle.std.proofs.shelf.Lists.{drop-more, drop-all}
-use Rattle.std.specs.Orderings.{Ranked, isLt, isEq, isGt}
+use Rattle.std.specs.Orderings.{Ranked}
 use Rattle.std.specs.declared.cmp.Ordering.{Ordering}
 use Rattle.std.specs.declared.cmp.Ordering.the-variants.{Less, Equal, Greater}
 use Rattle.pages.specs.Lists.{pick, each, same, earlier}
-use Rattle.pages.proofs.Lists.{earlier-less, earlier-next, earlier-more, earlier-not-same, later-not-same, earlier-one-way, earlier-irreflexive, same-next, same-refl, same-from, length-each}
+use Rattle.pages.proofs.Folds.{length-each}
+use Rattle.pages.proofs.Lists.{earlier-less, earlier-next, earlier-not-same, later-not-same, earlier-one-way, earlier-irreflexive, same-next, same-refl}
 use Rattle.words.specs.Words.{small}
 use Rattle.words.specs.Compared.{read-as, Compared}
 

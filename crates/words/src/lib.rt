@@ -2,15 +2,14 @@
 // a word is its place in the text, and capitals are made small as bytes are compared.
 ghost use mathlib.Core.Path.{_≡_};
 ghost use mathlib.Core.List.{[]};
-ghost use Prim.Native.Nat.{ℕ, _+_, _-_, _≤_, _<_};
-ghost use lib.ListN.{length, getD, take, drop};
+ghost use Prim.Native.Nat.{_+_};
+ghost use lib.ListN.{length, take, drop};
 ghost use Rattle.std.specs.Options.{Cases};
 ghost use Rattle.words.specs.Words.{in-word, small, words};
 ghost use Rattle.pages.specs.Lists.{pick, each};
 ghost use Rattle.words.specs.Compared.{read-as, Compared};
 ghost use Rattle.words.specs.Laws.{Words-stand, Order-stands};
-ghost use Rattle.words.specs.Stretches.{run, gap, stretch, word-at, to-come, Found};
-
+ghost use Rattle.words.specs.Stretches.{run, to-come, Found};
 use std::cmp::Ordering;
 
 // A word where it stands: its first byte, how many of its bytes count (at most 64), and where its stretch of bytes ends.
@@ -65,8 +64,12 @@ pub fn word_from(text: &[u8], at: usize) -> Option<Word>
     if start >= text.len() {
         return None;
     }
-    let end = run_end(text, start, true);
-    Some(Word { start, len: (end - start).min(64), end })
+    let end = run_end(text, start + 1, true);
+    Some(Word {
+        start,
+        len: (end - start).min(64),
+        end,
+    })
 }
 
 // The words of a text, in order as they stand in it.
@@ -162,4 +165,109 @@ pub fn order_stands() -> u8
     ensures { λ _. ⌜ Order-stands ⌝ }
 {
     0
+}
+
+#[cfg(test)]
+mod tests {
+    use super::*;
+    use std::test::*;
+
+    #[test]
+    fn nothing_has_no_words() -> Result<(), Fail> {
+        check_eq(word_from(b"", 0), None)?;
+        check_eq(word_from(b" .,-", 0), None)?;
+        check_eq(count(b""), 0)
+    }
+
+    #[test]
+    fn words_come_in_order() -> Result<(), Fail> {
+        let mut left = Words::new(b"- Two words");
+        check_eq(
+            left.next_word(),
+            Some(Word {
+                start: 2,
+                len: 3,
+                end: 5,
+            }),
+        )?;
+        check_eq(
+            left.next_word(),
+            Some(Word {
+                start: 6,
+                len: 5,
+                end: 11,
+            }),
+        )?;
+        check_eq(left.next_word(), None)
+    }
+
+    #[test]
+    fn the_first_64_bytes_count() -> Result<(), Fail> {
+        let long = [b'a'; 65];
+        check_eq(
+            word_from(&long[0..64], 0),
+            Some(Word {
+                start: 0,
+                len: 64,
+                end: 64,
+            }),
+        )?;
+        check_eq(
+            word_from(&long, 0),
+            Some(Word {
+                start: 0,
+                len: 64,
+                end: 65,
+            }),
+        )?;
+        check_eq(count(&long), 1)
+    }
+
+    fn letter_at_even_places(text: &mut [u8]) {
+        for i in 0..text.len() {
+            if i % 2 == 0 {
+                text[i] = b'a';
+            }
+        }
+    }
+
+    #[test]
+    fn every_second_byte_a_word() -> Result<(), Fail> {
+        let mut text = [b' '; 65535];
+        letter_at_even_places(&mut text);
+        check_eq(count(&text), 32768)
+    }
+
+    #[test]
+    fn high_bytes_do_not_cut() -> Result<(), Fail> {
+        check_eq(
+            word_from(b"\x7fa\x80\xffb/", 0),
+            Some(Word {
+                start: 1,
+                len: 4,
+                end: 5,
+            }),
+        )
+    }
+
+    #[test]
+    fn capitals_are_made_small() -> Result<(), Fail> {
+        check_eq(compare_to_key(b"ZebRA", b"zebra"), Ordering::Equal)?;
+        check_eq(compare_to_key(b"zebra", b"ZEBRA"), Ordering::Greater)?;
+        check_eq(compare_words(b"Ant", b"ANTS"), Ordering::Less)?;
+        check_eq(compare_words(b"b", b"ANTS"), Ordering::Greater)?;
+        check_eq(compare_keys(b"\x80", b"z"), Ordering::Greater)
+    }
+
+    #[test]
+    fn the_bytes_of_a_word() -> Result<(), Fail> {
+        let word = Word {
+            start: 2,
+            len: 3,
+            end: 5,
+        };
+        check_eq(word.bytes(b"- Two words"), b"Two")?;
+        check_eq(word.bytes(b"- T"), b"T")?;
+        check_eq(word.bytes(b""), b"")
+    }
 }

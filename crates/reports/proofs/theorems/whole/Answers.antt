@@ -1,5 +1,5 @@
-use Rattle.reports.proofs.Whole.{whole-none}
+use Rattle.reports.proofs.Whole.{whole-finding}
 use Rattle.reports.proofs.theorems.whole.Needs as need
 
 pub returns : need.returns
-returns c = whole-none
+returns c = whole-finding

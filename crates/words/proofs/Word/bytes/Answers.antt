@@ -1,4 +1,3 @@
-use mathlib.Core.Path.{_≡_, sym, ap, _∙_}
 use native.Mathlib.Omega.{arith}
 use Rattle.words.proofs.Laws.{clamped}
 use Rattle.words.proofs.Word.bytes.Needs as need

@@ -1,6 +1,6 @@
 use borrow.Author.Needs.{needs}
 use Rattle.reports.specs.Entry.{event-of}
-use Rattle.reports.proofs.machine.heard.Needs as need
+use Rattle.reports.proofs.events.heard.Needs as need
 
 pub returns-in-0 : need.returns-in-0
 unfolding event-of

@@ -1,0 +1,3 @@
+mod Copied
+pub mod Pages
+pub mod Room

@@ -1,0 +1,10 @@
+use mathlib.Core.Path.{_≡_}
+use mathlib.Core.List.{[]}
+use Prim.Native.Nat.{_+_, _-_, _/_, _^_}
+use Rattle.pages.specs.Bytes.{in-bytes}
+use Rattle.pages.specs.Places.{written}
+use Rattle.documents.proofs.layout.put_bytes.Given as given
+
+-- the lowest bytes so far are written, from the last place on, and the others are left
+abbrev pub Inv-loop-i : given.InvT-loop-i
+Inv-loop-i l = (l .out ≡ written (l .entry .out) (l .at + (l .width - l .i)) (in-bytes (l .i) (l .n) [])) × (l .left ≡ l .n / 256 ^ l .i)

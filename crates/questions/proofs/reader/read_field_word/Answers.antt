@@ -1,0 +1,11 @@
+use Rattle.questions.specs.Reading.{read-word}
+use Rattle.questions.proofs.Reading.{sought-none, sought-left}
+use Rattle.questions.proofs.reader.read_field_word.Needs as need
+
+pub returns-in-Break-rest : need.returns-in-Break-rest
+returns-in-Break-rest c = rw (c .from-residual .ensures) (sought-none read-word (c .args .bytes .now) (c .in-Break-rest .ensures tt))
+
+pub returns : need.returns
+returns c =
+    let f = c .in-Continue-rest .ensures tt in
+    sought-left read-word (c .args .bytes .now) (f .0) (c .in-Continue-rest .rest .now) (c .read-word .result) (f .1) (c .read-word .ensures)
