@@ -18,10 +18,11 @@ use Rattle.pages.proofs.Bytewise.{flat-append}
 use Rattle.pages.proofs.Lists.{earlier-transitive}
 use Rattle.pages.proofs.Sorted.{Pairwise}
 use Rattle.rows.specs.declared.cursor.Cursor.{Cursor}
+use Rattle.rows.specs.declared.search.Located.{Located}
 use Rattle.rows.specs.declared.search.Search.{Search}
 use Rattle.rows.specs.Rows.{Row, row-less, row-size, page-of, rows-end, row-at}
 use Rattle.rows.specs.Cursors.{Page-rows, Cut-on, together, page-start, passed, Sees}
-use Rattle.rows.specs.Searching.{from-key, key-before, first-before, middle, narrowed, Between, Located, located-at, located}
+use Rattle.rows.specs.Searching.{from-key, key-before, first-before, middle, narrowed, Between, located-at, located}
 use Rattle.rows.specs.Merging.{Rising}
 use Rattle.rows.specs.Laws.{Search-stands}
 use Rattle.rows.proofs.Ordered.{less-parts}

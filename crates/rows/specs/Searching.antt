@@ -10,6 +10,7 @@ use Rattle.std.specs.declared.option.Option.the-variants.{Some, None}
 use Rattle.pages.specs.Lists.{pick, earlier}
 use Rattle.pages.specs.Device.{Page}
 use Rattle.rows.specs.declared.cursor.Cursor.{Cursor}
+use Rattle.rows.specs.declared.search.Located.{Located}
 use Rattle.rows.specs.declared.search.Search.{Search}
 use Rattle.rows.specs.Rows.{Row, Stand, rows-end, row-at}
 use Rattle.rows.specs.Cursors.{passed}
@@ -44,10 +45,6 @@ pub record Between (cut : List (List Row)) (k : List ℕ) (s : Search) : Type 0 
   pub above : (i : ℕ) → s .hi ≤ i → i < length cut → first-before k (getD cut i []) ≡ false
 
 -- one step along the page before `lo`: past a row with an earlier key; it ends at a row that has none, or with the page
-pub record Located : Type 0 where
-  pub cursor : Cursor
-  pub ended : Bool
-
 abbrev pub located-at : List ℕ → Page → Cursor → Option Stand → Located
 located-at k p c None = record { cursor = c; ended = true }
 located-at k p c (Some s) = pick (earlier (s .row .key) k) (record { cursor = passed p c (s .next); ended = leb (rows-end p) (s .next) }) (record { cursor = c; ended = true })

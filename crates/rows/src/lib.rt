@@ -18,7 +18,9 @@ pub use page::put_row;
 pub use page::row_at;
 pub use page::rows_end;
 pub use row::Row;
+pub use search::Located;
 pub use search::Search;
+pub use search::locate;
 
 #[cfg(test)]
 mod tests {

@@ -1,7 +1,10 @@
-// The search for the first row whose key is not earlier than a key, one step over the pages.
+// The search for the first row whose key is not earlier than a key: one step over the pages, and one along a page.
 ghost use mathlib.Core.Path.{_≡_};
-ghost use Rattle.rows.specs.Searching.{middle, narrowed};
+ghost use Prim.Native.Nat.{_<_, _≤_};
+ghost use Rattle.rows.specs.Searching.{middle, narrowed, located};
+use crate::cursor::Cursor;
 use crate::page::row_at;
+use crate::page::rows_end;
 use std::cmp::Ordering;
 
 // The pages in question: from `lo` to before `hi`.
@@ -43,5 +46,37 @@ impl Search {
                 hi: mid,
             },
         }
+    }
+}
+
+// Where one step along a page came to, and whether the search ended there.
+#[derive(Clone, Copy)]
+pub struct Located {
+    pub cursor: Cursor,
+    pub ended: bool,
+}
+
+// One step along a page: past a row whose key is earlier. It ends at a row whose key is not, or with the page. If no page has
+// a higher number than the cursor's, the cursor stays on its page.
+pub fn locate(cursor: Cursor, page: &[u64], key: &[u8]) -> Located
+    ensures counted { λ r. ⌜ (cursor .page < 18446744073709551615 → r ≡ located (now (key .entry)) (now (page .entry)) cursor) ⌝ }
+    ensures ended { λ r. ⌜ r .ended ≡ located (now (key .entry)) (now (page .entry)) cursor .ended ⌝ }
+    ensures last { λ r. ⌜ (18446744073709551615 ≤ cursor .page → r .cursor .page ≡ cursor .page) ⌝ }
+{
+    let Some((row, next)) = row_at(page, cursor.at) else {
+        return Located {
+            cursor,
+            ended: true,
+        };
+    };
+    match row.compare_key(key) {
+        Ordering::Less => Located {
+            cursor: cursor.past(page, next),
+            ended: next >= rows_end(page),
+        },
+        _ => Located {
+            cursor,
+            ended: true,
+        },
     }
 }
