@@ -1,0 +1,186 @@
+// The engine beside its device: it is told one thing, and does one act, at a time.
+ghost use mathlib.Core.Path.{_≡_};
+ghost use Prim.Native.Nat.{ℕ, _+_, _≤_, _<_};
+ghost use mathlib.Core.Bool.{true};
+ghost use mathlib.Core.List.{[], _∷_, _++_, map};
+ghost use lib.ListN.{take};
+ghost use Rattle.std.specs.Results.{Cases};
+ghost use Rattle.std.specs.Of.Vec.{vec-items, vec-len};
+ghost use Rattle.std.specs.Vec.{made};
+ghost use Rattle.pages.specs.Bytes.{all-bytes};
+ghost use Rattle.reports.specs.Run.{World};
+ghost use Rattle.driver.specs.Acts.{act-of, Acted, Went};
+use crate::devices::Device;
+use crate::devices::Page;
+use crate::faults::Fault;
+use crate::faults::FaultFromAllocError;
+use crate::faults::FaultFromRefused;
+use reports::Told;
+use std::alloc::AllocError;
+use std::alloc::Global;
+
+// More acts than any command has.
+const MOST_ACTS: u64 = 1 << 40;
+
+// So much the engine may show at once.
+const LENT: usize = 131072;
+
+// How a command ended.
+#[derive(Clone, Copy, Debug, PartialEq, Eq)]
+pub enum End {
+    Done,
+    // The engine refused it, by this number.
+    Refused(u64),
+    // It was still running after as many acts as it was given.
+    Stopped,
+}
+
+// How a command went.
+#[derive(Drop)]
+pub struct Ran {
+    // What was shown, row by row.
+    pub rows: Vec<Vec<u8>>,
+    // How many pages were read and written.
+    pub pages: u64,
+    pub end: End,
+}
+
+// What the engine is told.
+#[derive(Clone, Copy)]
+enum Event {
+    Power,
+    Command,
+    // The page that it asked for.
+    Page,
+    // What it asked for is done.
+    Next,
+}
+
+// What follows an act.
+#[derive(Clone, Copy)]
+enum Next {
+    Tell(Event),
+    Ended(End),
+}
+
+#[derive(Drop)]
+pub struct Engine<D: Device + Drop> {
+    device: D,
+    heap: Global,
+    memory: Vec<u64>,
+    page: Page,
+    lent: Vec<u8>,
+    ghost sized: { 512 ≤ vec-len lent },
+}
+
+impl<D: Device + Drop> Engine<D> {
+    // An engine beside this device, with no power yet.
+    pub fn new(heap: Global, device: D) -> Result<Engine<D>, AllocError>
+    {
+        let memory = vec![in heap; 0; reports::CELLS]?;
+        let lent = vec![in heap; 0; LENT]?;
+        Ok(Engine { device, heap, memory, page: [0; 512], lent })
+    }
+
+    // Tells the engine one thing. The bytes are those of the command, or how many pages there are.
+    fn tell(&mut self, event: Event, bytes: &[u8]) -> Told
+        ensures { λ _. ⌜ now (self .exit) .device ≡ now (self .entry) .device ⌝ }
+    {
+        let memory = self.memory.as_mut_slice();
+        let lent = self.lent.as_mut_slice();
+        match event {
+            Event::Power => reports::step(memory, 0, bytes, lent),
+            Event::Command => reports::step(memory, 1, bytes, lent),
+            Event::Page => reports::step(memory, 2, &self.page, lent),
+            Event::Next => reports::step(memory, 3, &[], lent),
+        }
+    }
+
+    // Does what the engine asks for.
+    fn act(&mut self, told: Told, ran: &mut Ran) -> Result<Next, Fault>
+        requires { ⌜ now ran .pages + 1 < 18446744073709551616 ⌝ }
+        ensures few { λ _. ⌜ now (ran .exit) .pages ≤ now (ran .entry) .pages + 1 ⌝ }
+        ensures end { λ _. ⌜ now (ran .exit) .end ≡ now (ran .entry) .end ⌝ }
+        ensures made { λ r. ⌜ made r (λ n. (w : World) → D·Device .stands (now (self .entry) .device) (w .device) → Acted (D·Device .stands) w (act-of told (vec-items (now (self .entry) .lent))) (now (ran .entry)) n (now (self .exit) .page) (now (self .exit) .device) (now (ran .exit))) ⌝ }
+    {
+        match told {
+            Told::Read(page) => {
+                self.device.read(page, &mut self.page)?;
+                ran.pages += 1;
+                Ok(Next::Tell(Event::Page))
+            }
+            Told::Write(page) => {
+                self.page.copy_from_slice(&self.lent.as_slice()[0..512]);
+                let _ = are_bytes(&self.page);
+                self.device.write(page, &self.page)?;
+                ran.pages += 1;
+                Ok(Next::Tell(Event::Next))
+            }
+            Told::Flush => {
+                self.device.flush()?;
+                Ok(Next::Tell(Event::Next))
+            }
+            Told::Shows(count) => {
+                self.show(count, &mut ran.rows)?;
+                Ok(Next::Tell(Event::Next))
+            }
+            Told::Done => Ok(Next::Ended(End::Done)),
+            Told::No(number) => {
+                let end = refusal(number)?;
+                Ok(Next::Ended(end))
+            }
+        }
+    }
+
+    // Tells the engine this, does what it asks for, and so on, for so many acts at most.
+    fn run(&mut self, first: Event, bytes: &[u8], acts: u64) -> Result<Ran, Fault>
+        ensures { λ r. ⌜ made r (λ ran. Went (D·Device .stands) acts (now (self .entry) .device) (now (self .exit) .device) ran) ⌝ }
+    {
+        let mut ran = Ran {
+            rows: Vec::new(self.heap),
+            pages: 0,
+            end: End::Stopped,
+        };
+        let mut event = first;
+        for _ in 0..acts {
+            let told = self.tell(event, bytes);
+            match self.act(told, &mut ran)? {
+                Next::Tell(next) => event = next,
+                Next::Ended(end) => {
+                    ran.end = end;
+                    return Ok(ran);
+                }
+            }
+        }
+        Ok(ran)
+    }
+
+    // Keeps a row that is shown.
+    fn show(&self, count: u64, rows: &mut Vec<Vec<u8>>) -> Result<(), Fault>
+        ensures { λ r. ⌜ made r (λ _. (count ≤ vec-len (now (self .entry) .lent)) × (map vec-items (vec-items (now (rows .exit))) ≡ map vec-items (vec-items (now (rows .entry))) ++ take count (vec-items (now (self .entry) .lent)) ∷ [])) ⌝ }
+    {
+        if count > self.lent.len() as u64 {
+            return Err(Fault::TooLong(count));
+        }
+        let row = Vec::from_slice(self.heap, &self.lent.as_slice()[0..count as usize])?;
+        rows.push(row)?;
+        Ok(())
+    }
+}
+
+// A refusal has a number below 1,000, and not 0.
+fn refusal(number: u64) -> Result<End, Fault>
+    ensures { λ r. ⌜ Cases r (λ n. (1 ≤ number) × (number < 1000) × (n ≡ End.Refused number)) (λ e. (e ≡ Fault.NoRefusal number) × (number < 1000 → number ≡ 0)) ⌝ }
+{
+    if number == 0 || number >= 1000 {
+        return Err(Fault::NoRefusal(number));
+    }
+    Ok(End::Refused(number))
+}
+
+// Bytes are below 256, as their type says. A caller learns it here, for a proof that speaks of all of them.
+fn are_bytes(bytes: &[u8]) -> bool
+    ensures { λ _. ⌜ all-bytes (now (bytes .entry)) ≡ true ⌝ }
+{
+    bytes.len() == 0 || u16::from(bytes[0]) < 256
+}
