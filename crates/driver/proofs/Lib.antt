@@ -1,3 +1,3 @@
 pub mod Acting
-pub mod Playing
 pub mod Rows
+pub mod Running

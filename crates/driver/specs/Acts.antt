@@ -1,15 +1,15 @@
 -- What the driver does with what the engine asks for. Assumes nothing: these are definitions.
 use mathlib.Core.Path.{_≡_}
 use mathlib.Core.List.{List, [], _∷_, map}
-use Prim.Native.Nat.{ℕ, _≤_}
-use lib.ListN.{length, take}
+use mathlib.Core.Logic.{_⊎_}
+use Prim.Native.Nat.{ℕ}
 use Rattle.std.specs.Of.Vec.{vec-items}
-use Rattle.pages.specs.Bytes.{from-eight}
 use Rattle.pages.specs.Device.{Page, Device}
-use Rattle.reports.specs.Run.{World, Act, read, write, flush, shows, done, refused, Step, on-device, one-act, ran}
+use Rattle.reports.specs.Run.{World, Act, Step, in-memory, on-device, one-act, ran, woken, ran-as}
 use Rattle.reports.specs.Run as run
+use Rattle.reports.specs.Entry.{event-of, Act-told}
+use Rattle.reports.specs.Machine.{own}
 use Rattle.reports.specs.declared.Told.{Told}
-use Rattle.reports.specs.declared.Told.the-variants.{Read, Write, Flush, Shows, Done, No}
 use Rattle.driver.specs.declared.machine.End.{End}
 use Rattle.driver.specs.declared.machine.End.the-variants as end
 use Rattle.driver.specs.declared.machine.Event.{Event}
@@ -18,21 +18,12 @@ use Rattle.driver.specs.declared.machine.Next.{Next}
 use Rattle.driver.specs.declared.machine.Next.the-variants.{Tell, Ended}
 use Rattle.driver.specs.declared.machine.Ran.{Ran}
 
--- what the engine asks for, with what stands in the lent memory
-abbrev pub act-of : Told → List ℕ → Act
-act-of (Read k) lent = read k
-act-of (Write k) lent = write k (take 512 lent)
-act-of Flush lent = flush
-act-of (Shows n) lent = shows (take n lent)
-act-of Done lent = done
-act-of (No k) lent = refused k
-
 -- what the engine is told: the bytes are those of a command, or how many pages there are
-abbrev pub event-of : Event → List ℕ → Page → run.Event
-event-of event.Power bs p = run.on (from-eight 0 bs)
-event-of event.Command bs p = run.said bs
-event-of event.Page bs p = run.page p
-event-of event.Next bs p = run.next
+abbrev pub meant : Event → List ℕ → Page → run.Event
+meant event.Power bs p = event-of 0 bs
+meant event.Command bs p = event-of 1 bs
+meant event.Page bs p = event-of 2 p
+meant event.Next bs p = event-of 3 []
 
 -- how a command ended, by number
 abbrev pub end-number : End → ℕ
@@ -44,31 +35,38 @@ end-number end.Stopped = 1000
 abbrev pub rows-of : Ran → List (List ℕ)
 rows-of r = map vec-items (vec-items (r .rows))
 
--- an act done as it should be, by a device that may stand for that of the world w: what is told next, or how the command ended
-abbrev pub Acted : {D : Type 0} → (D → Device → Type 0) → World → Act → Ran → Next → Page → D → Ran → Type 0
-Acted stands w act r (Tell ev) p x r₁ =
+-- a step of the engine, as it is told
+abbrev pub Told-so : Step → Told → List ℕ → List ℕ → List ℕ → Type 0
+Told-so s told lent m₁ lent₁ = (m₁ ≡ s .memory) × Act-told (s .act) told lent lent₁
+
+-- an act that is a fault of the engine's, whatever would follow
+abbrev pub Faulty : World → Act → Type 0
+Faulty w act = (go : World → run.Event → List (List ℕ) → ℕ → run.Ran) (ss : List (List ℕ)) (r : ℕ) (m : List ℕ) → one-act go w ss r m act .end ≡ 1001
+
+-- an act done as it should be, by a device that may stand for that of the world w: what is told next, or how the command ended; and the rows shown
+-- and the pages read and written, before it and after it
+abbrev pub Acted : {D : Type 0} → (D → Device → Type 0) → World → Act → List (List ℕ) → ℕ → Next → Page → D → List (List ℕ) → ℕ → Type 0
+Acted stands w act ss r (Tell ev) p x ss₁ r₁ =
     (d : Device) × stands x d
-    × ((go : World → run.Event → List (List ℕ) → ℕ → run.Ran) (m : List ℕ) →
-        one-act go w (rows-of r) (r .pages) m act ≡ go (on-device m d) (event-of ev [] p) (rows-of r₁) (r₁ .pages))
-Acted stands w act r (Ended e) p x r₁ =
+    × ((go : World → run.Event → List (List ℕ) → ℕ → run.Ran) (m bs : List ℕ) → one-act go w ss r m act ≡ go (on-device m d) (meant ev bs p) ss₁ r₁)
+Acted stands w act ss r (Ended e) p x ss₁ r₁ =
     stands x (w .device) × (e ≡ end.Stopped → ⊥)
-    × ((go : World → run.Event → List (List ℕ) → ℕ → run.Ran) (m : List ℕ) →
-        one-act go w (rows-of r) (r .pages) m act ≡ ran (on-device m (w .device)) (rows-of r₁) (r₁ .pages) (end-number e))
+    × ((go : World → run.Event → List (List ℕ) → ℕ → run.Ran) (m : List ℕ) → one-act go w ss r m act ≡ ran (in-memory w m) ss₁ r₁ (end-number e))
 
--- these steps of the engine, one after the other
-unfoldable pub played : List Step → World → List (List ℕ) → ℕ → run.Ran
-played [] w ss r = ran w ss r 1000
-played (s ∷ steps) w ss r = one-act (λ w₁ ev ss₁ r₁. played steps w₁ ss₁ r₁) w ss r (s .memory) (s .act)
+-- how it should have gone, and how it went: the device and the memory afterwards, what was shown, how many pages were read and written, and the end.
+-- A run that comes to a fault of the engine's is not followed further: the engine promises that there is none
+abbrev pub Same : {D : Type 0} → (D → Device → Type 0) → run.Ran → D → List ℕ → Ran → Type 0
+Same stands o x m r =
+    (o .end ≡ 1001)
+    ⊎ (stands x (o .here .device) × (m ≡ o .here .memory) × (rows-of r ≡ o .showed) × (r .pages ≡ o .pages-used) × (end-number (r .end) ≡ o .end))
 
--- a command driven as it should be, in the world w, by so many acts at most, to the device x
-abbrev pub Played : {D : Type 0} → (D → Device → Type 0) → World → ℕ → D → Ran → Type 0
-Played stands w acts x r =
-    (steps : List Step) × (length steps ≤ acts) × (r .end ≡ end.Stopped → length steps ≡ acts)
-    × stands x (played steps w [] 0 .here .device)
-    × (rows-of r ≡ played steps w [] 0 .showed)
-    × (r .pages ≡ played steps w [] 0 .pages-used)
-    × (end-number (r .end) ≡ played steps w [] 0 .end)
+-- told this, with so many acts at most, in any world whose device and memory these may stand for
+abbrev pub Went : {D : Type 0} → (D → Device → Type 0) → ℕ → run.Event → D → List ℕ → D → List ℕ → Ran → Type 0
+Went stands acts ev x m x₁ m₁ r = (w : World) → stands x (w .device) → w .memory ≡ m → Same stands (run.runs acts own w ev [] 0) x₁ m₁ r
 
--- in any world whose device the device x may stand for
-abbrev pub Went : {D : Type 0} → (D → Device → Type 0) → ℕ → D → D → Ran → Type 0
-Went stands acts x x₁ r = (w : World) → stands x (w .device) → Played stands w acts x₁ r
+-- power, and a command
+abbrev pub Powered : {D : Type 0} → (D → Device → Type 0) → ℕ → D → D → List ℕ → Ran → Type 0
+Powered stands acts x x₁ m₁ r = (w : World) → stands x (w .device) → Same stands (woken own acts w) x₁ m₁ r
+
+abbrev pub Commanded : {D : Type 0} → (D → Device → Type 0) → ℕ → List ℕ → D → List ℕ → D → List ℕ → Ran → Type 0
+Commanded stands acts bs x m x₁ m₁ r = (w : World) → stands x (w .device) → w .memory ≡ m → Same stands (ran-as own acts w bs) x₁ m₁ r

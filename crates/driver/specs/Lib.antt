@@ -1,2 +1,3 @@
 pub mod Stands
 pub mod Acts
+pub mod Sizes

@@ -25,9 +25,18 @@ pub impl fmt::Display for Fault as FaultDisplay {
     fn fmt<W: fmt::Write>(&self, f: &mut fmt::Formatter<W>) -> fmt::Result {
         match self {
             Fault::Device(error) => write!(f, "the pages could not be read or written: {error}"),
-            Fault::NoSuchPage(page) => write!(f, "the engine asked for page {page}, which is not there"),
-            Fault::TooLong(count) => write!(f, "the engine showed {count} bytes, which is too many"),
-            Fault::NoRefusal(number) => write!(f, "the engine refused with {number}, which is no refusal"),
+            Fault::NoSuchPage(page) => write!(
+                f,
+                "the engine asked for page {page}, which is not there"
+            ),
+            Fault::TooLong(count) => write!(
+                f,
+                "the engine showed {count} bytes, which is too many"
+            ),
+            Fault::NoRefusal(number) => write!(
+                f,
+                "the engine refused with {number}, which is no refusal"
+            ),
             Fault::Endless => write!(f, "the engine did not come to an end"),
             Fault::NoMemory => write!(f, "there is no memory left"),
         }

@@ -9,8 +9,7 @@ use Rattle.driver.proofs.memory.MemoryDeviceDevice.read.Needs as need
 pub returns : need.returns
 returns c d e =
     let pages = c .args .self .now .pages in
-    let there : c .args .page < length (pages .items) = omega (arith, pages .ok .0) in
-    (
+    let there : c .args .page < length (pages .items) = omega (arith, pages .ok .0) in (
       e,
       omega (arith, length-all-written (d .pages) (d .queue), ap length e),
       c .index .ensures ∙ sym (page-at-getD (pages .items) (c .args .page) (c .index .result .now) there) ∙ ap (λ ps. page-at ps (c .args .page)) (sym e),

@@ -7,8 +7,7 @@ use Rattle.driver.proofs.memory.MemoryDeviceDevice.write.Needs as need
 pub returns : need.returns
 returns c d e =
     let k = c .args .page in
-    let page = c .args .from .now in
-    (
+    let page = c .args .from .now in (
       all-written-more (d .pages) (d .queue) (record { at = k; page = page }) ∙ set-page-set _ k page ∙ ap (λ ps. set ps k page) e,
       omega (arith, length-all-written (d .pages) (d .queue), ap length e, c .args .self .now .pages .ok .0),
     )
