@@ -15,6 +15,8 @@ pub enum Fault {
     TooLong(u64),
     // The engine refused with a number that is no refusal's: these are 1 to 999.
     NoRefusal(u64),
+    // The engine refused to start, by this number.
+    NoStart(u64),
     // The engine went on for 2^40 acts.
     Endless,
     // There is no memory left.
@@ -37,6 +39,7 @@ pub impl fmt::Display for Fault as FaultDisplay {
                 f,
                 "the engine refused with {number}, which is no refusal"
             ),
+            Fault::NoStart(number) => write!(f, "the engine refused to start, with {number}"),
             Fault::Endless => write!(f, "the engine did not come to an end"),
             Fault::NoMemory => write!(f, "there is no memory left"),
         }

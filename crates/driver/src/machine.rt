@@ -107,6 +107,19 @@ impl<D: Device + Drop> Engine<D> {
         })
     }
 
+    // An engine that came up on this device.
+    pub fn start(heap: Global, device: D) -> Result<Engine<D>, Fault>
+        ensures { λ r. ⌜ made r (λ e. (ran : Ran) × Powered (D·Device .stands) 1099511627776 device (e .device) (vec-items (e .memory)) ran × (ran .end ≡ End.Done)) ⌝ }
+    {
+        let mut engine = Engine::new(heap, device)?;
+        let ran = engine.power_on(MOST_ACTS)?.ended()?;
+        match ran.end {
+            End::Refused(number) => Err(Fault::NoStart(number)),
+            End::Done => Ok(engine),
+            End::Stopped => Err(Fault::Endless),
+        }
+    }
+
     // The device, for whatever comes after this engine.
     pub fn into_device(self) -> D
         ensures { λ r. ⌜ r ≡ self .device ⌝ }
