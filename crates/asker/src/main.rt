@@ -1,7 +1,7 @@
 // The engine for a person at a keyboard.
 use console::MisreadDisplay;
 use console::Request;
-use console::answer_text;
+use console::answer;
 use console::command_bytes;
 use console::open_engine;
 use console::read_request;
@@ -15,6 +15,7 @@ use driver::MOST_ACTS;
 use std::error::AnyError;
 use std::io::BufRead;
 use std::io::BufReader;
+use std::io::Write;
 
 const HELP: &str = "put NUMBER TITLE | BODY    keeps a document, or replaces the one of that number
 remove NUMBER              removes a document
@@ -41,19 +42,21 @@ fn run(rt: &LibcRuntime) -> Result<(), AnyError> {
         };
         match read_request(heap, text) {
             Ok(Request::Quit) => break,
-            Ok(request) => answer(rt, &mut engine, &request)?,
+            Ok(request) => say(rt, &mut engine, &request)?,
             Err(misread) => println!(rt, "{misread}")?,
         }
     }
     Ok(())
 }
 
-fn answer(rt: &LibcRuntime, engine: &mut Engine<FileDevice>, request: &Request<'_>) -> Result<(), AnyError> {
+// Says to the engine what is asked for, and prints how it went.
+fn say(rt: &LibcRuntime, engine: &mut Engine<FileDevice>, request: &Request<'_>) -> Result<(), AnyError> {
     let Some(bytes) = command_bytes(rt.alloc(), request)? else {
         println!(rt, "{HELP}")?;
         return Ok(());
     };
     let ran = engine.command(bytes.as_slice(), MOST_ACTS)?.ended()?;
-    rt.print(answer_text(rt.alloc(), request, &ran)?)?;
+    let text = answer(rt.alloc(), request, &ran)?;
+    rt.stdout().write_all(text.as_slice())?;
     Ok(())
 }

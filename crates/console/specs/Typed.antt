@@ -37,11 +37,6 @@ good-word w = ltb (w .field) 3 && a-word (vec-items (w .letters))
 abbrev pub letters-of : List ℕ → List ℕ
 letters-of bs = take 64 (each small bs)
 
--- bytes that are all of words, and some, are a word of these letters; others are none
-abbrev pub Letters-read : List ℕ → Option (Vec ℕ Global) → Type 0
-Letters-read bs None = (every in-word bs ≡ true) → (length bs ≡ 0)
-Letters-read bs (Some v) = (every in-word bs ≡ true) × (0 < length bs) × (every (λ b. ltb b 256) bs ≡ true) × (vec-items v ≡ letters-of bs)
-
 -- words for a question: at least one, and 16 at most, which make 31 parts
 abbrev pub Good-words : List Word → Type 0
 Good-words ws = (1 ≤ length ws) × (length ws ≤ 16) × (every good-word ws ≡ true)

@@ -1,71 +1,106 @@
 // What the engine shows, as lines to read.
 ghost use mathlib.Core.Path.{_≡_};
-ghost use mathlib.Core.List.{_++_};
-ghost use lib.Chars.{codes};
-ghost use lib.ListN.{take, drop};
+ghost use mathlib.Core.List.{map};
+ghost use lib.ListN.{drop};
 ghost use Rattle.std.specs.Of.String.{string-bytes};
+ghost use Rattle.std.specs.Of.Vec.{vec-items};
 ghost use Rattle.std.specs.Vec.{made};
-ghost use Rattle.std.specs.Written.{decimal};
-ghost use Rattle.pages.specs.Bytes.{from-eight};
+ghost use Rattle.driver.specs.Acts.{rows-of};
+ghost use Rattle.console.specs.Answered.{line-of, lines, hit-lines, shown, answered};
 use crate::typed::Request;
 use driver::End;
 use driver::Ran;
 use std::alloc::AllocError;
 use std::alloc::Global;
 
-// What is printed of how a command went, line by line.
-pub fn answer_text(heap: Global, request: &Request<'_>, ran: &Ran) -> Result<String, AllocError> {
+// What a row is.
+#[derive(Clone, Copy)]
+pub(crate) enum Kind {
+    // A name and its points.
+    Hit,
+    // How many match.
+    Number,
+    // A title or a body.
+    Text,
+}
+
+// What is printed of how a command went.
+pub fn answer(heap: Global, request: &Request<'_>, ran: &Ran) -> Result<Vec<u8>, AllocError>
+    ensures { λ r. ⌜ made r (λ v. vec-items v ≡ answered (now (request .entry)) (rows-of (now (ran .entry))) (now (ran .entry) .end)) ⌝ }
+{
     match ran.end {
-        End::Done => shown_text(heap, request, ran.rows.as_slice()),
-        End::Refused(number) => format!(heap, "refused {number}\n"),
-        End::Stopped => String::from_str(heap, "stopped\n"),
+        End::Done => show(heap, request, ran.rows.as_slice()),
+        End::Refused(number) => {
+            let text = format!(heap, "refused {number}\n")?;
+            Ok(text.into_bytes())
+        }
+        End::Stopped => {
+            let text = Vec::from_slice(heap, b"stopped\n")?;
+            Ok(text)
+        }
     }
 }
 
-fn shown_text(heap: Global, request: &Request<'_>, rows: &[Vec<u8>]) -> Result<String, AllocError> {
+fn show(heap: Global, request: &Request<'_>, rows: &[Vec<u8>]) -> Result<Vec<u8>, AllocError>
+    ensures { λ r. ⌜ made r (λ v. vec-items v ≡ shown (now (request .entry)) (map vec-items (now (rows .entry)))) ⌝ }
+{
     match request {
-        Request::Ask(_, _) => hits_text(heap, rows),
-        Request::Count(_) => counts_text(heap, rows),
-        Request::Fetch(_) => rows_text(heap, rows),
-        _ => String::from_str(heap, "done\n"),
+        Request::Ask(_, _) => show_hits(heap, rows),
+        Request::Count(_) => show_rows(heap, Kind::Number, rows),
+        Request::Fetch(_) => show_rows(heap, Kind::Text, rows),
+        _ => {
+            let text = Vec::from_slice(heap, b"done\n")?;
+            Ok(text)
+        }
     }
 }
 
-// A line for each hit. Where there is none, a line says so.
-fn hits_text(heap: Global, rows: &[Vec<u8>]) -> Result<String, AllocError> {
-    let mut text = String::new(heap);
-    for row in rows {
-        text.push_str(hit_line(heap, row.as_slice())?.as_str())?;
-        text.push('\n')?;
-    }
+// Where there is no hit, a line says so.
+fn show_hits(heap: Global, rows: &[Vec<u8>]) -> Result<Vec<u8>, AllocError>
+    ensures { λ r. ⌜ made r (λ v. vec-items v ≡ hit-lines (map vec-items (now (rows .entry)))) ⌝ }
+{
     if rows.is_empty() {
-        text.push_str("0 match\n")?;
+        let text = Vec::from_slice(heap, b"0 match\n")?;
+        return Ok(text);
+    }
+    show_rows(heap, Kind::Hit, rows)
+}
+
+// A line for each row.
+fn show_rows(heap: Global, kind: Kind, rows: &[Vec<u8>]) -> Result<Vec<u8>, AllocError>
+    ensures { λ r. ⌜ made r (λ v. vec-items v ≡ lines kind (map vec-items (now (rows .entry)))) ⌝ }
+{
+    let mut text = Vec::new(heap);
+    for row in rows {
+        let line = row_line(heap, kind, row.as_slice())?;
+        text.extend_from_slice(line.as_slice())?;
+        text.push(10)?;
     }
     Ok(text)
 }
 
-fn counts_text(heap: Global, rows: &[Vec<u8>]) -> Result<String, AllocError> {
-    let mut text = String::new(heap);
-    for row in rows {
-        text.push_str(count_line(heap, row.as_slice())?.as_str())?;
-        text.push('\n')?;
+fn row_line(heap: Global, kind: Kind, row: &[u8]) -> Result<Vec<u8>, AllocError>
+    ensures { λ r. ⌜ made r (λ v. vec-items v ≡ line-of kind (now (row .entry))) ⌝ }
+{
+    match kind {
+        Kind::Hit => {
+            let line = hit_line(heap, row)?;
+            Ok(line.into_bytes())
+        }
+        Kind::Number => {
+            let line = count_line(heap, row)?;
+            Ok(line.into_bytes())
+        }
+        Kind::Text => {
+            let line = Vec::from_slice(heap, row)?;
+            Ok(line)
+        }
     }
-    Ok(text)
-}
-
-// The rows as they are, each on a line.
-fn rows_text(heap: Global, rows: &[Vec<u8>]) -> Result<String, AllocError> {
-    let mut text = String::new(heap);
-    for row in rows {
-        text.push_str(String::from_utf8_lossy(heap, row.as_slice())?.as_str())?;
-        text.push('\n')?;
-    }
-    Ok(text)
 }
 
 // A hit: a name and its points.
-pub fn hit_line(heap: Global, row: &[u8]) -> Result<String, AllocError>
-    ensures { λ r. ⌜ made r (λ s. string-bytes s ≡ decimal (from-eight 0 (take 8 (now (row .entry)))) ++ (codes ": " ++ decimal (from-eight 0 (take 8 (drop 8 (now (row .entry))))))) ⌝ }
+fn hit_line(heap: Global, row: &[u8]) -> Result<String, AllocError>
+    ensures { λ r. ⌜ made r (λ s. string-bytes s ≡ line-of Kind.Hit (now (row .entry))) ⌝ }
 {
     let name = pages::number(row);
     let points = pages::number(after_eight(row));
@@ -75,12 +110,16 @@ pub fn hit_line(heap: Global, row: &[u8]) -> Result<String, AllocError>
 fn after_eight(row: &[u8]) -> &[u8]
     ensures { λ r. ⌜ now r ≡ drop 8 (now (row .entry)) ⌝ }
 {
-    if row.len() < 8 { &[] } else { &row[8..] }
+    if row.len() < 8 {
+        return &[];
+    }
+    let (_, rest) = row.split_at(8);
+    rest
 }
 
 // How many match.
-pub fn count_line(heap: Global, row: &[u8]) -> Result<String, AllocError>
-    ensures { λ r. ⌜ made r (λ s. string-bytes s ≡ decimal (from-eight 0 (take 8 (now (row .entry)))) ++ codes " match") ⌝ }
+fn count_line(heap: Global, row: &[u8]) -> Result<String, AllocError>
+    ensures { λ r. ⌜ made r (λ s. string-bytes s ≡ line-of Kind.Number (now (row .entry))) ⌝ }
 {
     let count = pages::number(row);
     format!(heap, "{count} match")

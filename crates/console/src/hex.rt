@@ -1,15 +1,16 @@
 // Bytes as hexadecimal digits, two for each, the higher first.
 ghost use mathlib.Core.Path.{_≡_};
 ghost use mathlib.Core.Bool.{true};
-ghost use Prim.Native.Nat.{_<_};
+ghost use Prim.Native.Nat.{_%_, _<_};
+ghost use lib.ListN.{length};
 ghost use Rattle.std.specs.Of.String.{string-bytes};
+ghost use Rattle.std.specs.Of.Vec.{vec-items};
 ghost use Rattle.std.specs.Options.{Cases as BySome};
 ghost use Rattle.std.specs.Vec.{made};
 ghost use Rattle.pages.specs.Lists.{every};
-ghost use Rattle.console.specs.Hex.{digit, in-hex, worth, is-digit, Bad-at, Hex-read};
+ghost use Rattle.console.specs.Hex.{digit, in-hex, worth, is-digit, from-hex, Bad-at, Hex-read};
 use std::alloc::AllocError;
 use std::alloc::Global;
-use std::alloc::Refused;
 use std::fmt;
 
 // Why a text is not read as bytes.
@@ -32,12 +33,6 @@ pub impl fmt::Display for BadHex as BadHexDisplay {
     }
 }
 
-pub impl<T: Drop> From<Refused<T>> for BadHex as BadHexFromRefused {
-    fn from(_refused: Refused<T>) -> BadHex {
-        BadHex::NoMemory
-    }
-}
-
 // Small digits.
 pub fn hex_of(heap: Global, bytes: &[u8]) -> Result<String, AllocError>
     ensures { λ r. ⌜ made r (λ s. string-bytes s ≡ in-hex (now (bytes .entry))) ⌝ }
@@ -52,7 +47,8 @@ pub fn hex_of(heap: Global, bytes: &[u8]) -> Result<String, AllocError>
 
 fn digit_of(n: u8) -> char
     requires { ⌜ n < 16 ⌝ }
-    ensures { λ r. ⌜ r ≡ digit n ⌝ }
+    ensures value { λ r. ⌜ r ≡ digit n ⌝ }
+    ensures bound { λ r. ⌜ r < 128 ⌝ }
 {
     if n < 10 {
         (48 + n) as char
@@ -65,12 +61,25 @@ fn digit_of(n: u8) -> char
 pub fn bytes_of_hex(heap: Global, text: &[u8]) -> Result<Vec<u8>, BadHex>
     ensures { λ r. ⌜ Hex-read (now (text .entry)) r ⌝ }
 {
-    if let Some(place) = first_bad(text) {
-        return Err(BadHex::NotADigit(place));
+    match first_bad(text) {
+        Some(place) => return Err(BadHex::NotADigit(place)),
+        None => {}
     }
     if text.len() % 2 == 1 {
         return Err(BadHex::Odd(text.len()));
     }
+    match read_pairs(heap, text) {
+        Ok(bytes) => Ok(bytes),
+        Err(_) => Err(BadHex::NoMemory),
+    }
+}
+
+// A byte for each two digits.
+fn read_pairs(heap: Global, text: &[u8]) -> Result<Vec<u8>, AllocError>
+    requires digits { ⌜ every is-digit (now text) ≡ true ⌝ }
+    requires even { ⌜ length (now text) % 2 ≡ 0 ⌝ }
+    ensures { λ r. ⌜ made r (λ v. vec-items v ≡ from-hex (now (text .entry))) ⌝ }
+{
     let mut bytes = Vec::new(heap);
     for i in 0..text.len() / 2 {
         let byte = 16 * worth_of(text[2 * i]) + worth_of(text[2 * i + 1]);

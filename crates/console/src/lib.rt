@@ -5,9 +5,7 @@ mod session;
 mod spelling;
 mod typed;
 
-pub use answers::answer_text;
-pub use answers::count_line;
-pub use answers::hit_line;
+pub use answers::answer;
 pub use hex::BadHex;
 pub use hex::BadHexDebug;
 pub use hex::BadHexDisplay;
@@ -27,3 +25,6 @@ pub use typed::MisreadDisplay;
 pub use typed::Request;
 pub use typed::Word;
 pub use typed::read_request;
+
+#[cfg(test)]
+mod tests;

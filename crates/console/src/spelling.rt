@@ -19,17 +19,19 @@ use std::alloc::Global;
 pub fn command_bytes(heap: Global, request: &Request<'_>) -> Result<Option<Vec<u8>>, AllocError>
     ensures { λ r. ⌜ made r (λ o. Good (now (request .entry)) → Spelled-so (now (request .entry)) o) ⌝ }
 {
-    let bytes = match request {
-        Request::Put { name, title, body } => spell_put(heap, *name, title.as_bytes(), body.as_bytes())?,
-        Request::Remove(name) => spell_remove(heap, *name)?,
-        Request::Note => spell_note(heap)?,
-        Request::Ask(most, words) => spell_ask(heap, *most, words.as_slice())?,
-        Request::Count(words) => spell_count(heap, words.as_slice())?,
-        Request::Fetch(name) => spell_fetch(heap, *name)?,
-        Request::Help => return Ok(None),
-        Request::Quit => return Ok(None),
-    };
-    Ok(Some(bytes))
+    match request {
+        Request::Put { name, title, body } => {
+            let bytes = spell_put(heap, *name, title.as_bytes(), body.as_bytes())?;
+            Ok(Some(bytes))
+        }
+        Request::Remove(name) => Ok(Some(spell_remove(heap, *name)?)),
+        Request::Note => Ok(Some(spell_note(heap)?)),
+        Request::Ask(most, words) => Ok(Some(spell_ask(heap, *most, words.as_slice())?)),
+        Request::Count(words) => Ok(Some(spell_count(heap, words.as_slice())?)),
+        Request::Fetch(name) => Ok(Some(spell_fetch(heap, *name)?)),
+        Request::Help => Ok(None),
+        Request::Quit => Ok(None),
+    }
 }
 
 pub fn spell_put(heap: Global, name: u64, title: &[u8], body: &[u8]) -> Result<Vec<u8>, AllocError>
@@ -50,7 +52,8 @@ pub fn spell_remove(heap: Global, name: u64) -> Result<Vec<u8>, AllocError>
 pub fn spell_note(heap: Global) -> Result<Vec<u8>, AllocError>
     ensures { λ r. ⌜ made r (λ v. vec-items v ≡ spelled note) ⌝ }
 {
-    Vec::from_slice(heap, &[3])
+    let bytes = Vec::from_slice(heap, &[3])?;
+    Ok(bytes)
 }
 
 pub fn spell_fetch(heap: Global, name: u64) -> Result<Vec<u8>, AllocError>

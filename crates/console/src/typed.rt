@@ -1,18 +1,20 @@
 // A line that someone typed, and what it asks for.
 ghost use mathlib.Core.Path.{_≡_};
 ghost use mathlib.Core.Bool.{true};
-ghost use Prim.Native.Nat.{_≤_, _<_};
-ghost use lib.ListN.{length};
+ghost use Prim.Native.Nat.{_<_};
 ghost use Rattle.std.specs.Of.Vec.{vec-items};
-ghost use Rattle.std.specs.Results.{Cases};
 ghost use Rattle.std.specs.Vec.{made};
 ghost use Rattle.pages.specs.Lists.{every};
-ghost use Rattle.words.specs.Words.{in-word, small};
-ghost use Rattle.console.specs.Typed.{good-word, Letters-read, Good-words, Good};
+ghost use Rattle.words.specs.Words.{in-word};
+ghost use Rattle.console.specs.Typed.{good-word, letters-of, Good-words, Good};
+use driver::hold_bytes;
+use questions::is_word;
 use std::alloc::AllocError;
 use std::alloc::Global;
 use std::alloc::Refused;
 use std::fmt;
+use words::in_word;
+use words::made_small;
 
 // So many words at most: they make 31 parts of a question, with a "both" between any two.
 const MOST_WORDS: usize = 16;
@@ -97,12 +99,12 @@ pub fn read_request<'a>(heap: Global, line: &'a str) -> Result<Request<'a>, Misr
     match verb {
         "put" => read_put(rest),
         "remove" => Ok(Request::Remove(read_number(rest)?)),
-        "note" => alone(verb, rest, Request::Note),
+        "note" => alone(verb, rest, Plain::Note),
         "ask" => read_ask(heap, rest),
-        "count" => Ok(Request::Count(read_words(heap, rest)?)),
+        "count" => read_count(heap, rest),
         "fetch" => Ok(Request::Fetch(read_number(rest)?)),
-        "help" => alone(verb, rest, Request::Help),
-        "quit" => alone(verb, rest, Request::Quit),
+        "help" => alone(verb, rest, Plain::Help),
+        "quit" => alone(verb, rest, Plain::Quit),
         _ => Err(Misread::Verb(verb)),
     }
 }
@@ -115,13 +117,24 @@ fn split_first(text: &str) -> (&str, &str) {
     }
 }
 
-fn alone<'a>(verb: &'a str, rest: &'a str, request: Request<'a>) -> Result<Request<'a>, Misread<'a>>
-    ensures { λ r. ⌜ made r (λ q. q ≡ request) ⌝ }
+// A verb after which nothing comes.
+#[derive(Clone, Copy)]
+enum Plain {
+    Note,
+    Help,
+    Quit,
+}
+
+fn alone<'a>(verb: &'a str, rest: &'a str, plain: Plain) -> Result<Request<'a>, Misread<'a>>
+    ensures { λ r. ⌜ made r Good ⌝ }
 {
-    if rest.is_empty() {
-        Ok(request)
-    } else {
-        Err(Misread::Alone(verb))
+    if !rest.is_empty() {
+        return Err(Misread::Alone(verb));
+    }
+    match plain {
+        Plain::Note => Ok(Request::Note),
+        Plain::Help => Ok(Request::Help),
+        Plain::Quit => Ok(Request::Quit),
     }
 }
 
@@ -147,6 +160,8 @@ fn read_put<'a>(text: &'a str) -> Result<Request<'a>, Misread<'a>>
     if body.len() > 65535 {
         return Err(Misread::LongBody(body.len()));
     }
+    let _ = hold_bytes(title.as_bytes());
+    let _ = hold_bytes(body.as_bytes());
     Ok(Request::Put { name, title, body })
 }
 
@@ -163,6 +178,13 @@ fn read_ask<'a>(heap: Global, text: &'a str) -> Result<Request<'a>, Misread<'a>>
     Ok(Request::Ask(most, words))
 }
 
+fn read_count<'a>(heap: Global, text: &'a str) -> Result<Request<'a>, Misread<'a>>
+    ensures { λ r. ⌜ made r Good ⌝ }
+{
+    let words = read_words(heap, text)?;
+    Ok(Request::Count(words))
+}
+
 fn read_words<'a>(heap: Global, text: &'a str) -> Result<Vec<Word>, Misread<'a>>
     ensures { λ r. ⌜ made r (λ ws. Good-words (vec-items ws)) ⌝ }
 {
@@ -171,7 +193,8 @@ fn read_words<'a>(heap: Global, text: &'a str) -> Result<Vec<Word>, Misread<'a>>
         if words.len() == MOST_WORDS {
             return Err(Misread::ManyWords);
         }
-        words.push(read_word(heap, piece)?)?;
+        let word = read_word(heap, piece)?;
+        words.push(word)?;
     }
     if words.is_empty() {
         return Err(Misread::NoWords);
@@ -184,10 +207,11 @@ fn read_word<'a>(heap: Global, text: &'a str) -> Result<Word, Misread<'a>>
     ensures { λ r. ⌜ made r (λ w. good-word w ≡ true) ⌝ }
 {
     let (field, rest) = field_of(text);
-    match letters(heap, rest.as_bytes())? {
-        Some(letters) => Ok(Word { field, letters }),
-        None => Err(Misread::NoWord(text)),
+    let letters = letters(heap, rest.as_bytes())?;
+    if !all_in_word(rest.as_bytes()) || !is_word(letters.as_slice()) {
+        return Err(Misread::NoWord(text));
     }
+    Ok(Word { field, letters })
 }
 
 fn field_of(text: &str) -> (u8, &str)
@@ -202,32 +226,25 @@ fn field_of(text: &str) -> (u8, &str)
     }
 }
 
-// The letters of a word as the engine has them, if all of these are letters and there is one.
-fn letters(heap: Global, bytes: &[u8]) -> Result<Option<Vec<u8>>, AllocError>
-    ensures { λ r. ⌜ made r (Letters-read (now (bytes .entry))) ⌝ }
+// Bytes as a word of the engine's has them: small, and 64 at most.
+fn letters(heap: Global, bytes: &[u8]) -> Result<Vec<u8>, AllocError>
+    ensures { λ r. ⌜ made r (λ v. vec-items v ≡ letters-of (now (bytes .entry))) ⌝ }
 {
-    let mut word = Vec::new(heap);
+    let mut letters = Vec::new(heap);
     for b in bytes {
-        if !is_word_byte(*b) {
-            return Ok(None);
+        letters.push(made_small(*b))?;
+    }
+    letters.truncate(64);
+    Ok(letters)
+}
+
+fn all_in_word(bytes: &[u8]) -> bool
+    ensures { λ r. ⌜ r ≡ every in-word (now (bytes .entry)) ⌝ }
+{
+    for b in bytes {
+        if !in_word(*b) {
+            return false;
         }
-        word.push(made_small(*b))?;
     }
-    if word.is_empty() {
-        return Ok(None);
-    }
-    word.truncate(64);
-    Ok(Some(word))
-}
-
-fn is_word_byte(c: u8) -> bool
-    ensures { λ r. ⌜ r ≡ in-word c ⌝ }
-{
-    c.is_ascii_lowercase() || c.is_ascii_uppercase() || c.is_ascii_digit() || c >= 128
-}
-
-fn made_small(c: u8) -> u8
-    ensures { λ r. ⌜ r ≡ small c ⌝ }
-{
-    if c >= 65 && c <= 90 { c + 32 } else { c }
+    true
 }

@@ -1,6 +1,5 @@
 // The engine beside its device: it is told one thing, and does one act, at a time.
 ghost use mathlib.Core.Path.{_≡_};
-ghost use mathlib.Core.Bool.{true};
 ghost use mathlib.Core.List.{List, [], _∷_, _++_, map};
 ghost use mathlib.Core.Logic.{_⊎_};
 ghost use Prim.Native.Nat.{ℕ, _+_, _≤_, _<_};
@@ -8,7 +7,6 @@ ghost use lib.ListN.{length, take};
 ghost use Rattle.std.specs.Of.Vec.{vec-items, vec-len};
 ghost use Rattle.std.specs.Results.{Cases};
 ghost use Rattle.std.specs.Vec.{made};
-ghost use Rattle.pages.specs.Bytes.{all-bytes};
 ghost use Rattle.pages.specs.Lists.{zeros};
 ghost use Rattle.reports.specs.Run.{World, Act};
 ghost use Rattle.reports.specs.Entry.{Act-told};
@@ -19,6 +17,7 @@ use crate::devices::Page;
 use crate::faults::Fault;
 use crate::faults::FaultFromAllocError;
 use crate::faults::FaultFromRefused;
+use crate::numbers::hold_bytes;
 use crate::numbers::number_bytes;
 use reports::Told;
 use std::alloc::AllocError;
@@ -239,13 +238,6 @@ fn refusal(number: u64) -> Result<End, Fault>
         return Err(Fault::NoRefusal(number));
     }
     Ok(End::Refused(number))
-}
-
-// Bytes are below 256, as their type says. A caller learns it here, for a proof that speaks of all of them.
-fn hold_bytes(bytes: &[u8]) -> bool
-    ensures { λ _. ⌜ all-bytes (now (bytes .entry)) ≡ true ⌝ }
-{
-    pages::are_bytes(bytes)
 }
 
 // Power came: all is 0.

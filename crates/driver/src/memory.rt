@@ -35,7 +35,8 @@ pub impl Device for MemoryDevice as MemoryDeviceDevice {
     ghost stands = { λ m d. all-written (d .pages) (d .queue) ≡ vec-items (m .pages) };
 
     fn pages(&self) -> u64 {
-        self.pages.len() as u64
+        let count = self.pages.len();
+        count as u64
     }
 
     fn read(&mut self, page: u64, into: &mut Page) -> Result<(), Fault> {
