@@ -50,7 +50,11 @@ fn run(rt: &LibcRuntime) -> Result<(), AnyError> {
 }
 
 // Says to the engine what is asked for, and prints how it went.
-fn say(rt: &LibcRuntime, engine: &mut Engine<FileDevice>, request: &Request<'_>) -> Result<(), AnyError> {
+fn say(
+    rt: &LibcRuntime,
+    engine: &mut Engine<FileDevice>,
+    request: &Request<'_>,
+) -> Result<(), AnyError> {
     let Some(bytes) = command_bytes(rt.alloc(), request)? else {
         println!(rt, "{HELP}")?;
         return Ok(());

@@ -14,7 +14,7 @@ use Rattle.pages.specs.Bytes.{all-bytes}
 use Rattle.pages.proofs.Bytes.{and-true}
 use Rattle.questions.specs.Query.{Query}
 use Rattle.questions.specs.Spelling.{query-spelled, query-fits, size}
-use Rattle.reports.specs.Command.{put, remove, ask, how-many, fetch, fits}
+use Rattle.reports.specs.Command.{put, remove, note, ask, how-many, fetch, fits}
 use Rattle.console.specs.declared.typed.Word.{Word}
 use Rattle.console.specs.Typed.{query-of, all-of, good-word, Good-words}
 
@@ -50,6 +50,10 @@ pub remove-fits : (n : ℕ) → n < 18446744073709551616 → fits (remove n) ≡
 unfolding fits
 remove-fits n h = lt-ltb n _ h
 
+pub note-fits : fits note ≡ true
+unfolding fits
+note-fits = refl
+
 pub fetch-fits : (n : ℕ) → n < 18446744073709551616 → fits (fetch n) ≡ true
 unfolding fits
 fetch-fits n h = lt-ltb n _ h
@@ -64,7 +68,7 @@ all-spelled [] h = absurd (omega arith)
 all-spelled (w ∷ ws) h = refl
 
 -- a word before others: 5 for "both", and the word
-pub one-of-more : (out : List ℕ) (ws : List Word) (i : ℕ) (d : Word) → i + 1 < length ws → ((out ++ 5 ∷ []) ++ query-spelled (query-of (getD ws i d))) ++ rest-spelled (drop (i + 1) ws) ≡ out ++ rest-spelled (drop i ws)
+one-of-more : (out : List ℕ) (ws : List Word) (i : ℕ) (d : Word) → i + 1 < length ws → ((out ++ 5 ∷ []) ++ query-spelled (query-of (getD ws i d))) ++ rest-spelled (drop (i + 1) ws) ≡ out ++ rest-spelled (drop i ws)
 unfolding query-spelled
 one-of-more out ws i d h =
     let here : i < length ws = omega arith in
@@ -75,8 +79,17 @@ one-of-more out ws i d h =
     more w (v ∷ vs) some = simp append-assoc
 
 -- the last word
-pub last-one : (out : List ℕ) (ws : List Word) (i : ℕ) (d : Word) → i + 1 ≡ length ws → (out ++ query-spelled (query-of (getD ws i d))) ++ rest-spelled (drop (i + 1) ws) ≡ out ++ rest-spelled (drop i ws)
+last-one : (out : List ℕ) (ws : List Word) (i : ℕ) (d : Word) → i + 1 ≡ length ws → (out ++ query-spelled (query-of (getD ws i d))) ++ rest-spelled (drop (i + 1) ws) ≡ out ++ rest-spelled (drop i ws)
 last-one out ws i d h =
     let here : i < length ws = omega arith in
-    let none : drop (suc i) ws ≡ [] = drop-of-length-le ws (omega arith) in
+    let none : drop (suc i) ws ≡ [] = drop-of-length-le ws {i = suc i} (omega arith) in
     rw (add-one, drop-cons ws i d here, none) (append-nil _)
+
+-- a word added, with its 5 before it if others come after it
+pub step-more : (out out₁ out₂ : List ℕ) (ws : List Word) (i : ℕ) (w : Word) → i + 1 < length ws → w ≡ getD ws i w → out₁ ≡ out ++ 5 ∷ [] → out₂ ≡ out₁ ++ query-spelled (query-of w) → out₂ ++ rest-spelled (drop (i + 1) ws) ≡ out ++ rest-spelled (drop i ws)
+step-more out out₁ out₂ ws i w h is first second =
+    ap (λ l. l ++ rest-spelled (drop (i + 1) ws)) (second ∙ ap (λ l. l ++ query-spelled (query-of w)) first ∙ ap (λ v. (out ++ 5 ∷ []) ++ query-spelled (query-of v)) is) ∙ one-of-more out ws i w h
+
+pub step-last : (out out₁ out₂ : List ℕ) (ws : List Word) (i : ℕ) (w : Word) → i + 1 ≡ length ws → w ≡ getD ws i w → out₁ ≡ out → out₂ ≡ out₁ ++ query-spelled (query-of w) → out₂ ++ rest-spelled (drop (i + 1) ws) ≡ out ++ rest-spelled (drop i ws)
+step-last out out₁ out₂ ws i w h is first second =
+    ap (λ l. l ++ rest-spelled (drop (i + 1) ws)) (second ∙ ap (λ l. l ++ query-spelled (query-of w)) first ∙ ap (λ v. out ++ query-spelled (query-of v)) is) ∙ last-one out ws i w h

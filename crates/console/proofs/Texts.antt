@@ -5,12 +5,17 @@ use mathlib.Core.List.{List, [], _∷_, _++_, map, append-assoc, append-nil}
 use Prim.Native.Nat.{ℕ, zero, suc, _+_, _*_, _/_, _%_, _≤_, _<_}
 use native.Mathlib.Numerals.{add-one}
 use native.Mathlib.Omega.{arith}
+use lib.Chars.{codes}
+use lib.Dec.{eqb}
 use lib.ListN.{length, getD, take, drop}
 use lib.Seq.{take-suc}
+use borrow.Author.Tests.{true-eqb, false-eqb}
 use Rattle.pages.specs.Lists.{every, each, flat}
 use Rattle.pages.proofs.Bytes.{and-true}
 use Rattle.pages.proofs.Lists.{every-join}
 use Rattle.std.proofs.shelf.Lists.{map-push}
+use Rattle.console.specs.declared.answers.Kind.the-variants.{Hit}
+use Rattle.console.specs.Answered.{lines, hit-lines}
 use Rattle.console.specs.Hex.{digit, in-hex, worth, from-hex}
 
 and-false : (b : Bool) → b && false ≡ false
@@ -70,6 +75,27 @@ from-hex-more (suc i) (c ∷ d ∷ cs) h =
     let e3 : 2 * suc i ≡ suc (suc (2 * i)) = omega arith in
     rw (e1, e2, e3) (ap (λ l. (16 * worth c + worth d) ∷ l) (from-hex-more i cs (omega arith)))
 
--- two digits added one after the other
-pub two-digits : (t t₁ t₂ e₁ e₂ : List ℕ) (d₁ d₂ : ℕ) → t₁ ≡ t ++ e₁ → t₂ ≡ t₁ ++ e₂ → e₁ ≡ d₁ ∷ [] → e₂ ≡ d₂ ∷ [] → t₂ ≡ t ++ d₁ ∷ d₂ ∷ []
-two-digits t t₁ t₂ e₁ e₂ d₁ d₂ first second one two = rw (second, first, one, two) (append-assoc t (d₁ ∷ []) (d₂ ∷ []))
+-- the digits of a byte added one after the other
+pub hex-step : (bs : List ℕ) (i : ℕ) (t t₁ t₂ e₁ e₂ : List ℕ) (d₁ d₂ : ℕ) → i < length bs → t ≡ in-hex (take i bs) → t₁ ≡ t ++ e₁ → t₂ ≡ t₁ ++ e₂ → e₁ ≡ d₁ ∷ [] → e₂ ≡ d₂ ∷ [] →
+    d₁ ≡ digit (getD bs i 0 / 16) → d₂ ≡ digit (getD bs i 0 % 16) → t₂ ≡ in-hex (take (i + 1) bs)
+hex-step bs i t t₁ t₂ e₁ e₂ d₁ d₂ h old first second one two high low =
+    second ∙ ap (λ l. l ++ e₂) first ∙ append-assoc t e₁ e₂ ∙ rw (one, two, high, low, old) (sym (in-hex-more bs i h))
+
+-- the byte of two digits added
+pub pair-step : (cs : List ℕ) (i : ℕ) (old new : List ℕ) (hi lo : ℕ) → 2 * i + 1 < length cs → old ≡ from-hex (take (2 * i) cs) → new ≡ old ++ (16 * hi + lo) ∷ [] → hi ≡ worth (getD cs (2 * i) 0) → lo ≡ worth (getD cs (2 * i + 1) 0) → new ≡ from-hex (take (2 * (i + 1)) cs)
+pair-step cs i old new hi lo h same more high low = more ∙ rw (same, high, low) (sym (from-hex-more i cs h))
+
+-- the line of a row added, and its end
+pub line-step : {A : Type 0} (f : List ℕ → List ℕ) (g : A → List ℕ) (rows : List A) (i : ℕ) (d : A) (old t₁ t₂ line : List ℕ) → i < length rows → old ≡ flat (λ row. f row ++ 10 ∷ []) (map g (take i rows)) →
+    t₁ ≡ old ++ line → t₂ ≡ t₁ ++ 10 ∷ [] → line ≡ f (g (getD rows i d)) → t₂ ≡ flat (λ row. f row ++ 10 ∷ []) (map g (take (i + 1) rows))
+line-step f g rows i d old t₁ t₂ line h same first second is =
+    second ∙ ap (λ l. l ++ 10 ∷ []) first ∙ append-assoc old line (10 ∷ []) ∙ rw (is, same) (sym (flat-more (λ row. f row ++ 10 ∷ []) g rows i d h))
+
+-- no hit, and some
+pub no-hits : {A : Type 0} (g : A → List ℕ) (rows : List A) → true ≡ eqb (length rows) 0 → hit-lines (map g rows) ≡ codes "0 match\n"
+no-hits g [] e = refl
+no-hits g (row ∷ rows) e = absurd (omega (arith, true-eqb _ 0 e))
+
+pub some-hits : {A : Type 0} (g : A → List ℕ) (rows : List A) → false ≡ eqb (length rows) 0 → lines Hit (map g rows) ≡ hit-lines (map g rows)
+some-hits g [] e = absurd (false-eqb 0 0 e refl)
+some-hits g (row ∷ rows) e = refl

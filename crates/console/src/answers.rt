@@ -63,7 +63,8 @@ fn show_hits(heap: Global, rows: &[Vec<u8>]) -> Result<Vec<u8>, AllocError>
         let text = Vec::from_slice(heap, b"0 match\n")?;
         return Ok(text);
     }
-    show_rows(heap, Kind::Hit, rows)
+    let text = show_rows(heap, Kind::Hit, rows)?;
+    Ok(text)
 }
 
 // A line for each row.

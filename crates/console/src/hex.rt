@@ -39,8 +39,10 @@ pub fn hex_of(heap: Global, bytes: &[u8]) -> Result<String, AllocError>
 {
     let mut text = String::new(heap);
     for b in bytes {
-        text.push(digit_of(*b / 16))?;
-        text.push(digit_of(*b % 16))?;
+        let high = digit_of(*b / 16);
+        text.push(high)?;
+        let low = digit_of(*b % 16);
+        text.push(low)?;
     }
     Ok(text)
 }
@@ -82,7 +84,9 @@ fn read_pairs(heap: Global, text: &[u8]) -> Result<Vec<u8>, AllocError>
 {
     let mut bytes = Vec::new(heap);
     for i in 0..text.len() / 2 {
-        let byte = 16 * worth_of(text[2 * i]) + worth_of(text[2 * i + 1]);
+        let high = worth_of(text[2 * i]);
+        let low = worth_of(text[2 * i + 1]);
+        let byte = 16 * high + low;
         bytes.push(byte)?;
     }
     Ok(bytes)

@@ -9,6 +9,7 @@ pub use answers::answer;
 pub use hex::BadHex;
 pub use hex::BadHexDebug;
 pub use hex::BadHexDisplay;
+pub use hex::BadHexPartialEq;
 pub use hex::bytes_of_hex;
 pub use hex::hex_of;
 pub use session::open_engine;

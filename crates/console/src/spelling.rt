@@ -116,5 +116,6 @@ fn add_word(bytes: &mut Vec<u8>, word: &Word) -> Result<(), AllocError>
     ensures { λ r. ⌜ made r (λ _. vec-items (now (bytes .exit)) ≡ vec-items (now (bytes .entry)) ++ query-spelled (query-of (now (word .entry)))) ⌝ }
 {
     bytes.extend_from_slice(&[1, word.field])?;
-    add_with_length(bytes, word.letters.as_slice())
+    add_with_length(bytes, word.letters.as_slice())?;
+    Ok(())
 }

@@ -14,7 +14,10 @@ fn command(heap: Global, line: &str) -> Result<Vec<u8>, Fail> {
 fn hex_both_ways(rt: LibcRuntime) -> Result<(), Fail> {
     let heap = rt.alloc();
     check_eq(hex_of(heap, &[0, 171, 255])?.as_str(), "00abff")?;
-    check_eq(bytes_of_hex(heap, b"00aBfF")?.as_slice(), [0, 171, 255].as_slice())?;
+    check_eq(
+        bytes_of_hex(heap, b"00aBfF")?.as_slice(),
+        [0, 171, 255].as_slice(),
+    )?;
     check_eq(bytes_of_hex(heap, b"00g").err(), Some(BadHex::NotADigit(2)))?;
     check_eq(bytes_of_hex(heap, b"00a").err(), Some(BadHex::Odd(3)))
 }
@@ -23,11 +26,80 @@ fn hex_both_ways(rt: LibcRuntime) -> Result<(), Fail> {
 fn commands_as_typed(rt: LibcRuntime) -> Result<(), Fail> {
     let heap = rt.alloc();
     check_eq(command(heap, "note")?.as_slice(), [3].as_slice())?;
-    check_eq(command(heap, " remove 3 ")?.as_slice(), [2, 0, 0, 0, 0, 0, 0, 0, 3].as_slice())?;
-    let put = [1, 0, 0, 0, 0, 0, 0, 0, 3, 0, 0, 0, 0, 0, 0, 0, 1, 84, 0, 0, 0, 0, 0, 0, 0, 2, 98, 46];
+    check_eq(
+        command(heap, " remove 3 ")?.as_slice(),
+        [2, 0, 0, 0, 0, 0, 0, 0, 3].as_slice(),
+    )?;
+    let put = [
+        1,
+        0,
+        0,
+        0,
+        0,
+        0,
+        0,
+        0,
+        3,
+        0,
+        0,
+        0,
+        0,
+        0,
+        0,
+        0,
+        1,
+        84,
+        0,
+        0,
+        0,
+        0,
+        0,
+        0,
+        0,
+        2,
+        98,
+        46,
+    ];
     check_eq(command(heap, "put 3 T | b.")?.as_slice(), put.as_slice())?;
-    let ask = [4, 0, 0, 0, 0, 0, 0, 0, 5, 5, 1, 0, 0, 0, 0, 0, 0, 0, 0, 2, 111, 105, 1, 1, 0, 0, 0, 0, 0, 0, 0, 1, 120];
-    check_eq(command(heap, "ask 5 Oi title:x")?.as_slice(), ask.as_slice())
+    let ask = [
+        4,
+        0,
+        0,
+        0,
+        0,
+        0,
+        0,
+        0,
+        5,
+        5,
+        1,
+        0,
+        0,
+        0,
+        0,
+        0,
+        0,
+        0,
+        0,
+        2,
+        111,
+        105,
+        1,
+        1,
+        0,
+        0,
+        0,
+        0,
+        0,
+        0,
+        0,
+        1,
+        120,
+    ];
+    check_eq(
+        command(heap, "ask 5 Oi title:x")?.as_slice(),
+        ask.as_slice(),
+    )
 }
 
 #[test]

@@ -31,7 +31,11 @@ pub struct Word {
 
 #[derive(Drop)]
 pub enum Request<'a> {
-    Put { name: u64, title: &'a str, body: &'a str },
+    Put {
+        name: u64,
+        title: &'a str,
+        body: &'a str,
+    },
     Remove(u64),
     Note,
     // The best so many that have all the words.
@@ -64,16 +68,37 @@ pub enum Misread<'a> {
 pub impl fmt::Display for Misread<'_> as MisreadDisplay {
     fn fmt<W: fmt::Write>(&self, f: &mut fmt::Formatter<W>) -> fmt::Result {
         match self {
-            Misread::Verb(verb) => write!(f, "expected put, remove, note, ask, count, fetch, help or quit, not {verb:?}"),
+            Misread::Verb(verb) => write!(
+                f,
+                "expected put, remove, note, ask, count, fetch, help or quit, not {verb:?}"
+            ),
             Misread::Alone(verb) => write!(f, "expected nothing after {verb}"),
-            Misread::Number(text) => write!(f, "expected a number from 0 to 18446744073709551615, not {text:?}"),
+            Misread::Number(text) => write!(
+                f,
+                "expected a number from 0 to 18446744073709551615, not {text:?}"
+            ),
             Misread::Bar => write!(f, "expected a number, a title, \" | \" and a body"),
-            Misread::LongTitle(count) => write!(f, "expected a title of at most 255 bytes, not {count}"),
-            Misread::LongBody(count) => write!(f, "expected a body of at most 65535 bytes, not {count}"),
-            Misread::Most(text) => write!(f, "expected how many are wanted, from 1 to 1000, not {text:?}"),
+            Misread::LongTitle(count) => write!(
+                f,
+                "expected a title of at most 255 bytes, not {count}"
+            ),
+            Misread::LongBody(count) => write!(
+                f,
+                "expected a body of at most 65535 bytes, not {count}"
+            ),
+            Misread::Most(text) => write!(
+                f,
+                "expected how many are wanted, from 1 to 1000, not {text:?}"
+            ),
             Misread::NoWords => write!(f, "expected words to look for"),
-            Misread::ManyWords => write!(f, "expected at most 16 words: n words make 2n-1 parts, of at most 31"),
-            Misread::NoWord(text) => write!(f, "expected a word of letters and digits, not {text:?}"),
+            Misread::ManyWords => write!(
+                f,
+                "expected at most 16 words: n words make 2n-1 parts, of at most 31"
+            ),
+            Misread::NoWord(text) => write!(
+                f,
+                "expected a word of letters and digits, not {text:?}"
+            ),
             Misread::NoMemory => write!(f, "there is no memory left"),
         }
     }
@@ -138,7 +163,9 @@ fn alone<'a>(verb: &'a str, rest: &'a str, plain: Plain) -> Result<Request<'a>, 
     }
 }
 
-fn read_number(text: &str) -> Result<u64, Misread<'_>> {
+fn read_number(text: &str) -> Result<u64, Misread<'_>>
+    ensures { λ r. ⌜ made r (λ n. n < 18446744073709551616) ⌝ }
+{
     match text.parse::<u64>() {
         Ok(number) => Ok(number),
         Err(_) => Err(Misread::Number(text)),

@@ -28,7 +28,10 @@ fn run(rt: &LibcRuntime) -> Result<(), AnyError> {
         number = number.saturating_add(1);
         let text = line.as_slice().trim_ascii();
         if text.is_empty() {
-            println!(rt, "error line {number}: expected a command in hexadecimal digits")?;
+            println!(
+                rt,
+                "error line {number}: expected a command in hexadecimal digits"
+            )?;
             continue;
         }
         match bytes_of_hex(heap, text) {
@@ -40,7 +43,11 @@ fn run(rt: &LibcRuntime) -> Result<(), AnyError> {
 }
 
 // Says a command to the engine, and prints what it shows and how it ended.
-fn command(rt: &LibcRuntime, engine: &mut Engine<FileDevice>, bytes: &[u8]) -> Result<(), AnyError> {
+fn command(
+    rt: &LibcRuntime,
+    engine: &mut Engine<FileDevice>,
+    bytes: &[u8],
+) -> Result<(), AnyError> {
     let ran = engine.command(bytes, MOST_ACTS)?.ended()?;
     for row in ran.rows.as_slice() {
         let text = hex_of(rt.alloc(), row.as_slice())?;

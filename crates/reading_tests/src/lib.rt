@@ -64,10 +64,19 @@ mod tests {
     #[test]
     fn every_kind(rt: LibcRuntime) -> Result<(), Fail> {
         let heap = rt.alloc();
-        check_eq(read(heap, &[Byte(1), Number(7), Text(b't', 3), Text(b'b', 0)])?, 1)?;
+        check_eq(
+            read(heap, &[Byte(1), Number(7), Text(b't', 3), Text(b'b', 0)])?,
+            1,
+        )?;
         check_eq(read(heap, &[Byte(2), Number(u64::MAX)])?, 2)?;
         check_eq(read(heap, &[Byte(3)])?, 3)?;
-        check_eq(read(heap, &[Byte(4), Number(1000), Byte(1), Byte(2), Text(b'w', 64)])?, 4)?;
+        check_eq(
+            read(
+                heap,
+                &[Byte(4), Number(1000), Byte(1), Byte(2), Text(b'w', 64)],
+            )?,
+            4,
+        )?;
         check_eq(read(heap, &[Byte(5), Byte(3), Byte(0), Text(0xff, 1)])?, 5)?;
         check_eq(read(heap, &[Byte(6), Number(0)])?, 6)?;
         check_eq(read(heap, &[Byte(7), Text(b'0', 0), Number(1)])?, 7)?;
@@ -77,7 +86,10 @@ mod tests {
     // What is handed on is what was spelled.
     #[test]
     fn parts_of_a_put(rt: LibcRuntime) -> Result<(), Fail> {
-        let bytes = spelled(rt.alloc(), &[Byte(1), Number(7), Text(b't', 3), Text(b'b', 5)])?;
+        let bytes = spelled(
+            rt.alloc(),
+            &[Byte(1), Number(7), Text(b't', 3), Text(b'b', 5)],
+        )?;
         let Some(Request::Put { name, title, body }) = read_command(&bytes) else {
             return Err(Fail::new("no put"));
         };
@@ -89,7 +101,10 @@ mod tests {
     // A question is handed on as it is spelled.
     #[test]
     fn parts_of_an_ask(rt: LibcRuntime) -> Result<(), Fail> {
-        let bytes = spelled(rt.alloc(), &[Byte(4), Number(12), Byte(1), Byte(0), Text(b'w', 1)])?;
+        let bytes = spelled(
+            rt.alloc(),
+            &[Byte(4), Number(12), Byte(1), Byte(0), Text(b'w', 1)],
+        )?;
         let Some(Request::Ask(most, question)) = read_command(&bytes) else {
             return Err(Fail::new("no ask"));
         };
@@ -101,17 +116,41 @@ mod tests {
     #[test]
     fn texts(rt: LibcRuntime) -> Result<(), Fail> {
         let heap = rt.alloc();
-        check_eq(read(heap, &[Byte(1), Number(7), Text(b't', 255), Text(b'b', 65_535)])?, 1)?;
-        check_eq(read(heap, &[Byte(1), Number(7), Text(b't', 256), Text(b'b', 5)])?, 0)?;
-        check_eq(read(heap, &[Byte(1), Number(7), Text(b't', 3), Text(b'b', 65_536)])?, 0)
+        check_eq(
+            read(
+                heap,
+                &[Byte(1), Number(7), Text(b't', 255), Text(b'b', 65_535)],
+            )?,
+            1,
+        )?;
+        check_eq(
+            read(heap, &[Byte(1), Number(7), Text(b't', 256), Text(b'b', 5)])?,
+            0,
+        )?;
+        check_eq(
+            read(
+                heap,
+                &[Byte(1), Number(7), Text(b't', 3), Text(b'b', 65_536)],
+            )?,
+            0,
+        )
     }
 
     // From 1 to 1,000 hits or words.
     #[test]
     fn limits(rt: LibcRuntime) -> Result<(), Fail> {
         let heap = rt.alloc();
-        check_eq(read(heap, &[Byte(4), Number(0), Byte(1), Byte(0), Text(b'w', 1)])?, 0)?;
-        check_eq(read(heap, &[Byte(4), Number(1001), Byte(1), Byte(0), Text(b'w', 1)])?, 0)?;
+        check_eq(
+            read(heap, &[Byte(4), Number(0), Byte(1), Byte(0), Text(b'w', 1)])?,
+            0,
+        )?;
+        check_eq(
+            read(
+                heap,
+                &[Byte(4), Number(1001), Byte(1), Byte(0), Text(b'w', 1)],
+            )?,
+            0,
+        )?;
         check_eq(read(heap, &[Byte(7), Text(b'w', 1), Number(1000)])?, 7)?;
         check_eq(read(heap, &[Byte(7), Text(b'w', 1), Number(0)])?, 0)?;
         check_eq(read(heap, &[Byte(7), Text(b'w', 1), Number(1001)])?, 0)?;
@@ -135,9 +174,27 @@ mod tests {
     #[test]
     fn distances(rt: LibcRuntime) -> Result<(), Fail> {
         let heap = rt.alloc();
-        check_eq(read(heap, &[Byte(5), Byte(4), Number(64), Text(b'v', 1), Text(b'w', 1)])?, 5)?;
-        check_eq(read(heap, &[Byte(5), Byte(4), Number(0), Text(b'v', 1), Text(b'w', 1)])?, 0)?;
-        check_eq(read(heap, &[Byte(5), Byte(4), Number(65), Text(b'v', 1), Text(b'w', 1)])?, 0)
+        check_eq(
+            read(
+                heap,
+                &[Byte(5), Byte(4), Number(64), Text(b'v', 1), Text(b'w', 1)],
+            )?,
+            5,
+        )?;
+        check_eq(
+            read(
+                heap,
+                &[Byte(5), Byte(4), Number(0), Text(b'v', 1), Text(b'w', 1)],
+            )?,
+            0,
+        )?;
+        check_eq(
+            read(
+                heap,
+                &[Byte(5), Byte(4), Number(65), Text(b'v', 1), Text(b'w', 1)],
+            )?,
+            0,
+        )
     }
 
     // Whether a phrase of so many words is read.
@@ -184,9 +241,33 @@ mod tests {
         for cut in 0..bytes.len() {
             check_eq(kind(&bytes[0..cut]), 0)?;
         }
-        check_eq(read(heap, &[Byte(1), Number(7), Text(b't', 3), Text(b'b', 5), Byte(0)])?, 0)?;
-        check_eq(read(heap, &[Byte(1), Number(7), Text(b't', 3), Number(6), Byte(b'b')])?, 0)?;
-        check_eq(read(heap, &[Byte(1), Number(7), Text(b't', 3), Number(u64::MAX), Byte(b'b')])?, 0)?;
+        check_eq(
+            read(
+                heap,
+                &[Byte(1), Number(7), Text(b't', 3), Text(b'b', 5), Byte(0)],
+            )?,
+            0,
+        )?;
+        check_eq(
+            read(
+                heap,
+                &[Byte(1), Number(7), Text(b't', 3), Number(6), Byte(b'b')],
+            )?,
+            0,
+        )?;
+        check_eq(
+            read(
+                heap,
+                &[
+                    Byte(1),
+                    Number(7),
+                    Text(b't', 3),
+                    Number(u64::MAX),
+                    Byte(b'b'),
+                ],
+            )?,
+            0,
+        )?;
         check_eq(read(heap, &[Byte(3), Byte(0)])?, 0)?;
         check_eq(read(heap, &[Byte(0)])?, 0)?;
         check_eq(read(heap, &[Byte(9)])?, 0)

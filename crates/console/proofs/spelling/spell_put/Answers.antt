@@ -1,6 +1,6 @@
 use mathlib.Core.Path.{_≡_, ap, _∙_}
-use mathlib.Core.List.{_∷_, _++_, append-assoc}
-use Rattle.pages.specs.Bytes.{eight, with-length}
+use mathlib.Core.List.{_++_}
+use Rattle.pages.specs.Bytes.{with-length}
 use Rattle.reports.specs.Command.{spelled}
 use Rattle.console.proofs.spelling.spell_put.Needs as need
 
@@ -11,4 +11,3 @@ returns c =
     let body = with-length (c .args .body .now) in
     c .in-Continue-add-with-length-2 .ensures tt
     ∙ ap (λ l. l ++ body) (c .in-Continue-add-with-length .ensures tt ∙ ap (λ l. l ++ title) (c .in-Continue-bytes .ensures tt))
-    ∙ append-assoc (1 ∷ eight (c .args .name)) title body
