@@ -5,6 +5,7 @@ use console::answer;
 use console::command_bytes;
 use console::open_engine;
 use console::read_request;
+use console::report;
 use driver::Engine;
 use driver::FaultDebug;
 use driver::FaultDisplay;
@@ -28,7 +29,7 @@ quit                       ends
 A word may begin with title: or body: to be looked for only there.";
 
 fn main(rt: LibcRuntime) -> Result<(), AnyError> {
-    rt.report(run(&rt))
+    report(&rt, run(&rt))
 }
 
 fn run(rt: &LibcRuntime) -> Result<(), AnyError> {

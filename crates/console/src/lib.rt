@@ -13,6 +13,7 @@ pub use hex::BadHexPartialEq;
 pub use hex::bytes_of_hex;
 pub use hex::hex_of;
 pub use session::open_engine;
+pub use session::report;
 pub use spelling::command_bytes;
 pub use spelling::spell_ask;
 pub use spelling::spell_count;

@@ -1,4 +1,5 @@
-// What both programs begin with: a file of pages, named by their arguments, and an engine that came up on it.
+// What both programs begin with: a file of pages, named by their arguments, and an engine that came up on it; and how they end.
+ghost use mathlib.Core.Path.{_≡_};
 use driver::BadFileDebug;
 use driver::BadFileDisplay;
 use driver::BadFileError;
@@ -10,6 +11,16 @@ use driver::FileDevice;
 use driver::FileDeviceDevice;
 use std::env;
 use std::error::AnyError;
+
+// Prints why a program ended, if it did not end well, and hands it on.
+pub fn report(rt: &LibcRuntime, result: Result<(), AnyError>) -> Result<(), AnyError>
+    ensures { λ r. ⌜ r ≡ result ⌝ }
+{
+    if let Err(error) = &result {
+        let _ = eprintln!(rt, "error: {error}");
+    }
+    result
+}
 
 // The engine on the file FILE of the arguments FILE [PAGES].
 pub fn open_engine(rt: &LibcRuntime) -> Result<Engine<FileDevice>, AnyError> {

@@ -3,6 +3,7 @@ use console::BadHexDisplay;
 use console::bytes_of_hex;
 use console::hex_of;
 use console::open_engine;
+use console::report;
 use driver::End;
 use driver::Engine;
 use driver::FaultDebug;
@@ -16,7 +17,7 @@ use std::io::BufRead;
 use std::io::BufReader;
 
 fn main(rt: LibcRuntime) -> Result<(), AnyError> {
-    rt.report(run(&rt))
+    report(&rt, run(&rt))
 }
 
 fn run(rt: &LibcRuntime) -> Result<(), AnyError> {
