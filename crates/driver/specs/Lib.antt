@@ -1,0 +1,3 @@
+pub mod Stands
+pub mod Acts
+pub mod Sizes
