@@ -1,7 +1,12 @@
-// Pages of 512 bytes and the numbers on them; the head of a device, and which one counts after a stop.
+// Pages of 512 bytes, the numbers on them, and pages in memory; the head of a device, and which one counts after a stop.
+mod cells;
 mod numbers;
 mod roots;
 
+pub use cells::clear;
+pub use cells::give_page;
+pub use cells::is_page;
+pub use cells::take_page;
 pub use numbers::are_bytes;
 pub use numbers::number;
 pub use numbers::number_at;
