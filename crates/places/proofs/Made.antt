@@ -1,0 +1,1 @@
+-- Laws for the making of tokens. Assumes nothing.
