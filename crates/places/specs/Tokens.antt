@@ -3,7 +3,7 @@
 use mathlib.Core.Path.{_≡_}
 use mathlib.Core.Bool.{Bool, _&&_}
 use mathlib.Core.List.{List, [], _∷_}
-use Prim.Native.Nat.{ℕ, _+_, _/_, _%_}
+use Prim.Native.Nat.{ℕ, _+_, _/_, _%_, _≤_}
 use lib.Dec.{ltb, leb}
 use lib.ListN.{length, take, drop}
 use Rattle.pages.specs.Lists.{pick, each}
@@ -50,5 +50,6 @@ tokens-fit title body room = (leb (length title) 65535 && leb (length body) 6553
 -- the first `n` tokens are those of the words, as they stand in title and body; the others are as they were
 pub record Indexed (title body before : List ℕ) (n : ℕ) (after : List ℕ) : Type 0 where
   pub counted : n ≡ length (words title) + length (words body)
+  pub within : n ≤ length before
   pub rows : (doc : ℕ) → rows-of-tokens doc title body (take n after) ≡ word-rows doc title body
   pub rest : drop n after ≡ drop n before
