@@ -133,6 +133,7 @@ indexed-both title body ts us vs m n l room a b =
     record {
       counted = omega arith;
       within = omega arith;
+      few = omega arith;
       rows = λ doc.
           let F = token-row doc title body in
           let front : take m (take n vs) ≡ take m us = take-take m n vs up ∙ b .front in
