@@ -4,22 +4,22 @@ use mathlib.Core.Bool.{Bool, true, false}
 use mathlib.Core.List.{List, [], _∷_, _++_, append-nil, append-assoc}
 use Prim.Native.Nat.{ℕ, suc, _+_, _-_, _*_, _/_, _%_, _≤_, _<_}
 use native.Mathlib.Omega.{arith}
-use lib.Dec.{ltb}
+use lib.Dec.{ltb, leb}
 use lib.ListN.{length, take, drop, set, length-take}
 use Rattle.std.specs.shelf.Lists.{All}
 use Rattle.std.proofs.shelf.Lists.{take-more-set, take-set-le, drop-append-le, drop-set-lt, drop-drop, drop-all, take-take, take-append-drop}
 use Rattle.std.proofs.shelf.Elements.{all-weaker}
-use Rattle.std.proofs.shelf.Tests.{lt-ltb, le-ltb, le-leb, and-from}
-use Rattle.pages.specs.Lists.{pick, each}
+use Rattle.std.proofs.shelf.Tests.{lt-ltb, le-ltb, le-leb, leb-true, and-from, and-parts}
+use Rattle.pages.specs.Lists.{pick, every, each}
 use Rattle.pages.proofs.Folds.{each-append}
 use Rattle.words.specs.Words.{words}
 use Rattle.words.specs.Stretches.{to-come, word-at, Found}
 use Rattle.words.specs.declared.Word.{Word}
-use Rattle.words.proofs.Laws.{come-from-start, words-few}
+use Rattle.words.proofs.Laws.{come-from-start, words-few, words-every}
 use Rattle.rows.specs.Rows.{Row}
 use Rattle.places.specs.Places.{placed, word-rows}
 use Rattle.places.specs.Tokens.{first-word, key-at, token-place, token-text, text-row, token-row, rows-of-tokens, Added, tokens-fit, Indexed}
-use Rattle.places.proofs.Numbered.{placed-places}
+use Rattle.places.proofs.Numbered.{placed-places, every-true}
 
 -- while tokens are put: those that are there and the words to come are all of them
 pub record Adding (text : List ℕ) (base from : ℕ) (before : List ℕ) (n at : ℕ) (now : List ℕ) : Type 0 where
@@ -145,3 +145,12 @@ indexed-both title body ts us vs m n l room a b =
 
 pub fit-from : (title body : List ℕ) (room : ℕ) → length title ≤ 65535 → length body ≤ 65535 → length (words title) + length (words body) ≤ room → tokens-fit title body room ≡ true
 fit-from title body room h k l = and-from _ _ (and-from _ _ (le-leb _ _ h) (le-leb _ _ k)) (le-leb _ _ l)
+
+-- a key has at most 64 bytes
+first-short : (ws : List (List ℕ)) → every (λ w. leb (length w) 64) ws ≡ true → length (first-word ws) ≤ 64
+first-short [] h = omega arith
+first-short (w ∷ ws) h = leb-true (length w) 64 (and-parts (leb (length w) 64) (every (λ v. leb (length v) 64) ws) h .0)
+
+pub key-short : (text : List ℕ) (at : ℕ) → length (key-at text at) ≤ 64
+key-short text at =
+    first-short (to-come text at) (words-every (λ _. true) (λ _. true) (λ w. leb (length w) 64) (λ _ _ _. refl) (λ w _ most _. le-leb (length w) 64 most) (drop at text) (every-true (drop at text)))

@@ -72,7 +72,7 @@ high w = leb 1 (length w) && every (λ c. leb 48 c) w
 small-high : (c : ℕ) → in-word c ≡ true → leb 48 (small c) ≡ true
 small-high c t = grind (arith, tells)
 
-every-true : (bs : List ℕ) → every (λ _. true) bs ≡ true
+pub every-true : (bs : List ℕ) → every (λ _. true) bs ≡ true
 every-true [] = refl
 every-true (b ∷ bs) = every-true bs
 

@@ -110,7 +110,12 @@ fn sort(title: &[u8], body: &[u8], tokens: &mut [u64], scratch: &mut [u64])
 
 // Writes a token for each word of title and body, in the order of their rows, and says how many. The scratch is at least as long as
 // the memory for the tokens, and holds anything afterwards. What does not fit is refused, and all is left as it was.
-pub fn place_words(title: &[u8], body: &[u8], tokens: &mut [u64], scratch: &mut [u64]) -> Option<usize>
+pub fn place_words(
+    title: &[u8],
+    body: &[u8],
+    tokens: &mut [u64],
+    scratch: &mut [u64],
+) -> Option<usize>
     ensures fits { λ r. ⌜ isSome r ≡ (leb (length (now (tokens .entry))) (length (now (scratch .entry))) && tokens-fit (now (title .entry)) (now (body .entry)) (length (now (tokens .entry)))) ⌝ }
     ensures placed { λ r. ⌜ Cases r ((now (tokens .exit) ≡ now (tokens .entry)) × (now (scratch .exit) ≡ now (scratch .entry))) (λ n. Placed (now (title .entry)) (now (body .entry)) (now (tokens .entry)) n (now (tokens .exit))) ⌝ }
 {

@@ -35,6 +35,6 @@ returns c =
     let l : length out ≡ n = omega (arith, c .sort .kept .tokens, length-take (n - 0) mid, c .index-words .kept .tokens, x .within) in
     record {
       fits = sym (and-from _ _ (le-leb _ _ (omega arith)) (sym (c .in-Continue-n .ensures tt .fits)));
-      placed = index-sorted title body (c .args .tokens .now) mid out _ n x l
+      placed = index-sorted title body (c .args .tokens .now) mid out (out ++ drop (n - 0) mid) n x l
           (λ doc. c .sort .ensures doc ∙ ap (λ k. sorted-rows (rows-of-tokens doc title body (take k mid))) e) (ap (λ k. out ++ drop k mid) e);
     }
