@@ -1,7 +1,7 @@
 // What people and programs at the other end of a line type and read: bytes as hexadecimal digits, commands as words.
 mod answers;
 mod hex;
-mod session;
+mod opening;
 mod spelling;
 mod typed;
 
@@ -12,8 +12,8 @@ pub use hex::BadHexDisplay;
 pub use hex::BadHexPartialEq;
 pub use hex::bytes_of_hex;
 pub use hex::hex_of;
-pub use session::open_engine;
-pub use session::report;
+pub use opening::open_engine;
+pub use opening::report;
 pub use spelling::command_bytes;
 pub use spelling::spell_ask;
 pub use spelling::spell_count;
