@@ -3,17 +3,15 @@ use console::{Request, answer, command_bytes, open_engine, read_request, report}
 use driver::{Engine, FileDevice, MOST_ACTS};
 use std::io::{BufRead, BufReader, Write};
 
-const HELP: &str =
-    "put NUMBER TITLE | BODY    puts a document, in place of the one of that number if there is one
+const HELP: &str = "put NUMBER TITLE | BODY    keeps a document, or replaces the one of that number
 remove NUMBER              removes a document
-note                       keeps what was put and removed: from now on it is found, and outlasts the end
+note                       makes what was put and removed be found from now on
 ask MOST WORD..            the best documents that have all of the words, with their points
 count WORD..               how many documents have all of the words
 fetch NUMBER               the title and the body of a document
 help                       prints this
-quit                       ends; what was put and removed since the last note is lost
-A word may begin with title: or body: to be looked for only there.
-What is refused changes nothing: 2 is not known yet, 3 no such document, 8 no room.";
+quit                       ends
+A word may begin with title: or body: to be looked for only there.";
 
 fn main(rt: HostRuntime) -> anyhow::Result<()> {
     report(&rt, run(&rt))

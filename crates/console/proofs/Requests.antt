@@ -1,5 +1,5 @@
 -- What is typed makes commands that fit, and how all of some words are spelled. Assumes nothing.
-use Rattle.std.proofs.Common.{◌≡◌, ℕ, zero, suc, ◌+◌, ◌*◌, ◌<◌, ◌≤◌, Bool, true, ◌&&◌, ltb, leb, List, [], ◌∷◌, ◌++◌, length, get_or, drop, sym, refl, ap, ◌∙◌, append_assoc, append-nil, add-one, arith, length-drop, drop_of_length-le, drop-cons, lt-ltb, le-leb, leb-true}
+use Rattle.std.proofs.Common.{◌≡◌, ℕ, zero, suc, ◌+◌, ◌*◌, ◌<◌, ◌≤◌, Bool, true, ◌&&◌, ltb, leb, List, [], ◌∷◌, ◌++◌, length, get_or, drop, sym, refl, ap, ◌∙◌, append_assoc, append-nil, add-one, arith, length-drop, drop_of_length-le, drop-cons, lt-ltb, le-leb}
 use Rattle.pages.specs.Lists.{every}
 use Rattle.pages.specs.Bytes.{all_bytes}
 use Rattle.pages.proofs.Bytes.{and_true}
@@ -33,11 +33,9 @@ unfolding fits
 counted_fits [] good = absurd (omega (arith, good.0))
 counted_fits (w ∷ ws) good = rw (fits_all w ws good.2) (le-leb _ 31 (omega (arith, size_all w ws, good.1)))
 
-pub put_fits : (n : ℕ) (t b : List ℕ) → n < 18446744073709551616 → leb (length t) 255 && all_bytes t ≡ true → leb (length b) 65535 && all_bytes b ≡ true → fits (put n t b) ≡ true
+pub put_fits : (n : ℕ) (t b : List ℕ) → n < 18446744073709551616 → length t ≤ 255 → length b ≤ 65535 → all_bytes t ≡ true → all_bytes b ≡ true → fits (put n t b) ≡ true
 unfolding fits
-put_fits n t b name title body =
-    let long : length b ≤ 65535 = leb-true _ 65535 (and_true (leb (length b) 65535) (all_bytes b) body).0 in
-    rw (lt-ltb n _ name, title, lt-ltb (length b) 65536 (omega arith), (and_true (leb (length b) 65535) (all_bytes b) body).1)
+put_fits n t b name title body tb bb = rw (lt-ltb n _ name, le-leb _ 255 title, tb, lt-ltb (length b) 65536 (omega arith), bb)
 
 pub remove_fits : (n : ℕ) → n < 18446744073709551616 → fits (remove n) ≡ true
 unfolding fits

@@ -19,17 +19,8 @@ pub enum BadHex {
 impl fmt::Display for BadHex {
     fn fmt<W: fmt::Write>(&self, f: &mut fmt::Formatter<W>) -> fmt::Result {
         match self {
-            BadHex::NotADigit(place) => {
-                let number = place.saturating_add(1);
-                write!(
-                    f,
-                    "character {number} is no hexadecimal digit, which are 0 to 9 and a to f"
-                )
-            }
-            BadHex::Odd(count) => write!(
-                f,
-                "an odd number of digits, {count}, where each byte wants two"
-            ),
+            BadHex::NotADigit(place) => write!(f, "no hexadecimal digit after {place} of them"),
+            BadHex::Odd(count) => write!(f, "an odd number of digits, {count}"),
             BadHex::NoMemory => write!(f, "there is no memory left"),
         }
     }

@@ -1,11 +1,10 @@
 // A line that someone typed, and what it asks for.
-ghost use Rattle.std.specs.Prelude.{◌≡◌, ◌<◌, true, ◌&&◌, length, IfOk, nat_le};
-ghost use Rattle.pages.specs.Bytes.{all_bytes};
+ghost use Rattle.std.specs.Prelude.{◌≡◌, ◌<◌, true, IfOk};
 ghost use Rattle.pages.specs.Lists.{every};
 ghost use Rattle.words.specs.Words.{in_word};
 ghost use Rattle.console.specs.Typed.{good_word, letters_of, GoodWords, Good};
 
-use pages::are_bytes;
+use driver::hold_bytes;
 use questions::is_word;
 use std::alloc::{AllocError, AllocFailed, Global};
 use std::fmt;
@@ -176,20 +175,15 @@ fn read_put<'a>(text: &'a str) -> Result<Request<'a>, Misread<'a>>
     };
     let (number, title) = split_first(head);
     let name = read_number(number)?;
-    if !fits_in(title.as_bytes(), 255) {
+    if title.len() > 255 {
         return Err(Misread::LongTitle(title.len()));
     }
-    if !fits_in(body.as_bytes(), 65535) {
+    if body.len() > 65535 {
         return Err(Misread::LongBody(body.len()));
     }
+    let _ = hold_bytes(title.as_bytes());
+    let _ = hold_bytes(body.as_bytes());
     Ok(Request::Put { name, title, body })
-}
-
-// Whether these are bytes, and so many at most.
-fn fits_in(text: &[u8], most: usize) -> bool
-    ensures { result ≡ nat_le (length text.now) most && all_bytes text.now }
-{
-    text.len() <= most && are_bytes(text)
 }
 
 // How many are wanted, and words.

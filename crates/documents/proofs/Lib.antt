@@ -1,3 +1,3 @@
-pub mod Copied
+mod Copied
 pub mod Pages
 pub mod Room

@@ -11,7 +11,7 @@ pub use faults::Fault;
 pub use files::{BadFile, FileDevice, found_pages, pages_of_size};
 pub use machine::{End, Engine, MOST_ACTS, Ran};
 pub use memory::MemoryDevice;
-pub use numbers::number_bytes;
+pub use numbers::{hold_bytes, number_bytes};
 
 #[cfg(test)]
 mod tests;

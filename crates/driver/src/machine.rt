@@ -1,6 +1,5 @@
 // The engine beside its device: it is told one thing, and does one act, at a time.
-ghost use Rattle.std.specs.Prelude.{◌≡◌, ℕ, ◌+◌, ◌<◌, ◌≤◌, true, ◌⊎◌, List, [], ◌∷◌, ◌++◌, map, length, take, IfOk, vec_items, vec_len, MatchResult, OnOk, ◌≢◌};
-ghost use Rattle.pages.specs.Bytes.{all_bytes};
+ghost use Rattle.std.specs.Prelude.{◌≡◌, ℕ, ◌+◌, ◌<◌, ◌≤◌, ◌⊎◌, List, [], ◌∷◌, ◌++◌, map, length, take, IfOk, vec_items, vec_len, MatchResult, OnOk, ◌≢◌};
 ghost use Rattle.pages.specs.Lists.{zeros};
 ghost use Rattle.reports.specs.Run.{World, Act};
 ghost use Rattle.reports.specs.Entry.{ActTold};
@@ -9,7 +8,7 @@ ghost use Rattle.driver.specs.Acts.{meant, rows_of, ToldSo, Faulty, Acted, Went,
 
 use crate::devices::{Device, Page};
 use crate::faults::Fault;
-use crate::numbers::number_bytes;
+use crate::numbers::{hold_bytes, number_bytes};
 use reports::Told;
 use std::alloc::{AllocError, Global};
 
@@ -109,19 +108,11 @@ impl<D: Device + Drop> Engine<D> {
         }
     }
 
-    // The device beside this engine.
-    pub fn device(&self) -> &D
-        ensures { result.now ≡ self.now.device }
-    {
-        &self.device
-    }
-
     // The device, for whatever comes after this engine.
     pub fn into_device(self) -> D
         ensures { result ≡ self.device }
     {
-        let Engine { device, .. } = self;
-        device
+        self.device
     }
 
     // Power comes: the engine knows nothing but what is on its pages. It does so many acts at most.
@@ -193,7 +184,8 @@ impl<D: Device + Drop> Engine<D> {
                 Ok(Next::Tell(Event::Page))
             }
             Told::Write(page) => {
-                take_lent(&mut self.page, self.lent.as_slice());
+                self.page.copy_from_slice(&self.lent.as_slice()[0..512]);
+                let _ = hold_bytes(&self.page);
                 self.device.write(page, &self.page)?;
                 ran.pages += 1;
                 Ok(Next::Tell(Event::Next))
@@ -235,15 +227,6 @@ fn refusal(number: u64) -> Result<End, Fault>
         return Err(Fault::NoRefusal(number));
     }
     Ok(End::Refused(number))
-}
-
-// Takes the page that the engine left at the beginning of the lent row. It is one of bytes, as the row is.
-fn take_lent(page: &mut Page, lent: &[u8])
-    requires { 512 ≤ length lent.now }
-    ensures after { page.new ≡ take 512 lent.now }
-    ensures bytes { all_bytes page.new ≡ true }
-{
-    page.copy_from_slice(&lent[0..512]);
 }
 
 // Power came: all is 0.

@@ -14,8 +14,7 @@ fn run(rt: &HostRuntime) -> anyhow::Result<()> {
     for line in BufReader::new(heap, rt.stdin())?.split(heap, b'\n') {
         let line = line?;
         number = number.saturating_add(1);
-        // What stands before the digits is not cut off, so that an error counts the characters of the line as it is.
-        let text = line.as_slice().trim_ascii_end();
+        let text = line.as_slice().trim_ascii();
         if text.is_empty() {
             println!(rt; "error line {number}: expected a command in hexadecimal digits")?;
             continue;

@@ -87,7 +87,7 @@ stands_new ps qs k h h₁ s e f l p q =
     }
 
 -- writes elsewhere
-pub past_elsewhere : (ws : List Write) (k : ℕ) → k ≤ 1 → past_heads ws ≡ true → Elsewhere k ws
+past_elsewhere : (ws : List Write) (k : ℕ) → k ≤ 1 → past_heads ws ≡ true → Elsewhere k ws
 past_elsewhere ws k l h = All-weaker (λ w. ltb 1 w.at ≡ true) (λ w. w.at ≡ k → ⊥) (λ w e q. omega (arith, ltb-true 1 w.at e)) ws (all_from_every (λ w. ltb 1 w.at) ws h)
 
 spares_elsewhere : (ws : List Write) (k : ℕ) → spares k ws ≡ true → Elsewhere k ws

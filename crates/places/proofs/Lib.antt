@@ -1,12 +1,4 @@
 pub mod Ordered
 pub mod Numbered
-pub mod Starts
-pub mod Celled
 pub mod Made
 pub mod Merged
-pub mod Together
-pub mod Named
-pub mod Held
-pub mod Taken
-pub mod Segments
-pub mod Exact

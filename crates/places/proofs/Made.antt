@@ -1,5 +1,5 @@
 -- Laws for the making of tokens. Assumes nothing.
-use Rattle.std.proofs.Common.{◌≡◌, ℕ, suc, ◌+◌, ◌-◌, ◌*◌, ◌/◌, ◌%◌, ◌<◌, ◌≤◌, Bool, true, false, ◌&&◌, ltb, leb, List, [], ◌∷◌, ◌++◌, length, take, drop, set, sym, refl, ap, ◌∙◌, subst, append_assoc, append-nil, arith, length-take}
+use Rattle.std.proofs.Common.{◌≡◌, ℕ, suc, ◌+◌, ◌-◌, ◌*◌, ◌/◌, ◌%◌, ◌<◌, ◌≤◌, Bool, true, false, ltb, leb, List, [], ◌∷◌, ◌++◌, length, take, drop, set, sym, refl, ap, ◌∙◌, subst, append_assoc, append-nil, arith, length-take}
 use Rattle.std.specs.List.{AllByRecursion as All}
 use Rattle.std.proofs.lemmas.List.{take_more_set, take-set-le, drop-append-le, drop-set-lt, drop-drop, drop_all, take-take, take-append-drop}
 use Rattle.std.proofs.ByRecursion.{All-weaker}
@@ -12,16 +12,14 @@ use Rattle.words.specs.declared.Word.{Word}
 use Rattle.words.proofs.Laws.{come_from_start, words_few, words_every}
 use Rattle.rows.specs.Rows.{Row}
 use Rattle.places.specs.Places.{placed, word_rows}
-use Rattle.places.specs.Tokens.{first_word, key_at, token_place, token_text, text_row, token_row, rows_of_tokens, Added, starts_from, word_starts, tokens_from, text_tokens, tokens_fit, Indexed}
+use Rattle.places.specs.Tokens.{first_word, key_at, token_place, token_text, text_row, token_row, rows_of_tokens, Added, tokens_fit, Indexed}
 use Rattle.places.proofs.Numbered.{placed_places, every_true}
-use Rattle.places.proofs.Starts.{starts_next, starts_none}
 
 -- while tokens are put: those that are there and the words to come are all of them
 pub record Adding (text : List ℕ) (base from : ℕ) (before : List ℕ) (n at : ℕ) (now : List ℕ) : Type 0 where
   pub ahead : from ≤ n
   pub counted : n - from + length (to_come text at) ≡ length (words text)
   pub rows : (doc : ℕ) → each (text_row doc text) (drop from (take n now)) ++ placed doc (base + (n - from)) (to_come text at) ≡ placed doc base (words text)
-  pub exact : drop from (take n now) ++ tokens_from (base + (n - from)) (starts_from false at (drop at text)) ≡ text_tokens base text
   pub front : take from now ≡ take from before
   pub rest : drop n now ≡ drop n before
 
@@ -32,13 +30,12 @@ adding_none text base from ts =
       ahead = omega arith;
       counted = omega arith;
       rows = λ doc. (λ i. each (text_row doc text) (none i) ++ placed doc (base + (from - from)) (words text)) ∙ ap (λ p. placed doc p (words text)) (omega arith);
-      exact = (λ i. none i ++ tokens_from (base + (from - from)) (word_starts text)) ∙ ap (λ p. tokens_from p (word_starts text)) (omega arith);
       front = refl;
       rest = refl;
     }
 
 -- a token that is put says where its word begins and its place
-pub token_reads : (text : List ℕ) (doc at p : ℕ) (w : Word) → Found text at w → p < 65536 → (t : ℕ) → t ≡ w.start * 65536 + p →
+token_reads : (text : List ℕ) (doc at p : ℕ) (w : Word) → Found text at w → p < 65536 → (t : ℕ) → t ≡ w.start * 65536 + p →
     text_row doc text t ≡ record { key = word_at text w.start w.len; doc = doc; place = p }
 token_reads text doc at p w f l t e =
     let start : t / 65536 ≡ w.start = omega arith in
@@ -50,7 +47,7 @@ token_reads text doc at p w f l t e =
 module _ (text : List ℕ) (base from : ℕ) (before : List ℕ) (n at : ℕ) (ts : List ℕ) (inv : Adding text base from before n at ts) where
   pub adding_more : (w : Word) (t : ℕ) → Found text at w → base + length (words text) ≤ 65536 → from + length (words text) ≤ length ts → t ≡ w.start * 65536 + (base + (n - from)) →
       Adding text base from before (n + 1) w.end (set ts n t)
-  unfolding placed tokens_from
+  unfolding placed
   adding_more w t f fits room e =
       let ahead = inv.ahead in
       let counted = inv.counted in
@@ -73,21 +70,12 @@ module _ (text : List ℕ) (base from : ℕ) (before : List ℕ) (n at : ℕ) (t
             ∙ (λ i. each F (drop from (take n ts)) ++ reads i ∷ placed doc (sym next i) (to_come text w.end))
             ∙ ap (λ ws. each F (drop from (take n ts)) ++ placed doc p ws) (sym f.comes)
             ∙ inv.rows doc;
-        exact =
-            let next : base + (n + 1 - from) ≡ p + 1 = omega arith in
-            let token : t ≡ 65536 * w.start + p = omega arith in
-            let left = starts_from false w.end (drop w.end text) in
-            (λ i. made i ++ tokens_from (next i) left)
-            ∙ append_assoc (drop from (take n ts)) (t ∷ []) (tokens_from (p + 1) left)
-            ∙ (λ i. drop from (take n ts) ++ token i ∷ tokens_from (p + 1) left)
-            ∙ ap (λ ss. drop from (take n ts) ++ tokens_from p ss) (sym (starts_next text at w f))
-            ∙ inv.exact;
         front = take-set-le from ts n t ahead ∙ inv.front;
         rest = drop-set-lt (n + 1) ts n t (omega arith) ∙ sym (drop-drop 1 n ts) ∙ ap (drop 1) inv.rest ∙ drop-drop 1 n before;
       }
 
   pub adding_all : to_come text at ≡ [] → Added text base from before n ts
-  unfolding placed tokens_from
+  unfolding placed
   adding_all e =
       let ahead = inv.ahead in
       let counted = inv.counted in
@@ -97,8 +85,6 @@ module _ (text : List ℕ) (base from : ℕ) (before : List ℕ) (n at : ℕ) (t
         rows = λ doc.
             let F = text_row doc text in
             sym (append-nil (each F (drop from (take n ts)))) ∙ ap (λ ws. each F (drop from (take n ts)) ++ placed doc (base + (n - from)) ws) (sym e) ∙ inv.rows doc;
-        exact =
-            sym (append-nil (drop from (take n ts))) ∙ ap (λ ss. drop from (take n ts) ++ tokens_from (base + (n - from)) ss) (sym (starts_none text at e)) ∙ inv.exact;
         front = inv.front;
         rest = inv.rest;
       }
@@ -108,7 +94,7 @@ each_agrees : {A B : Type 0} (f g : A → B) (xs : List A) → All (λ x. f x �
 each_agrees f g [] h = refl
 each_agrees f g (x ∷ xs) h = λ i. h.0 i ∷ each_agrees f g xs h.1 i
 
-pub all_of_each : {A B : Type 0} (P : B → Type 0) (f : A → B) (xs : List A) → All P (each f xs) → All (λ x. P (f x)) xs
+all_of_each : {A B : Type 0} (P : B → Type 0) (f : A → B) (xs : List A) → All P (each f xs) → All (λ x. P (f x)) xs
 all_of_each P f [] h = tt
 all_of_each P f (x ∷ xs) h = (h.0, all_of_each P f xs h.1)
 
@@ -148,22 +134,11 @@ indexed_both title body ts us vs m n l room a b =
           ap (each F) (sym (take-append-drop m (take n vs))) ∙ each_append F (take m (take n vs)) (drop m (take n vs))
           ∙ (λ i. each F (front i) ++ each F (drop m (take n vs)))
           ∙ (λ i. title_tokens doc title body (take m us) (omega arith) (a.rows doc) i ++ body_tokens doc title body (drop m (take n vs)) (b.rows doc) i);
-      exact =
-          let front : take m (take n vs) ≡ take m us = take-take m n vs up ∙ b.front in
-          sym (take-append-drop m (take n vs)) ∙ (λ i. front i ++ drop m (take n vs)) ∙ (λ i. a.exact i ++ b.exact i);
       rest = b.rest ∙ sym (ap (λ k. drop k us) (omega arith)) ∙ sym (drop-drop (n - m) m us) ∙ ap (drop (n - m)) a.rest ∙ drop-drop (n - m) m ts ∙ ap (λ k. drop k ts) (omega arith);
     }
 
 pub fit_from : (title body : List ℕ) (room : ℕ) → length title ≤ 65535 → length body ≤ 65535 → length (words title) + length (words body) ≤ room → tokens_fit title body room ≡ true
 fit_from title body room h k l = and_from _ _ (and_from _ _ (le-leb _ _ h) (le-leb _ _ k)) (le-leb _ _ l)
-
--- .. and then a body has few words
-pub fit_few : (title body : List ℕ) (room : ℕ) → tokens_fit title body room ≡ true → length (words body) ≤ 32768
-fit_few title body room e =
-    let lengths = (and_parts (leb (length title) 65535 && leb (length body) 65535) _ e).0 in
-    let short = leb-true (length body) 65535 (and_parts (leb (length title) 65535) (leb (length body) 65535) lengths).1 in
-    let few = words_few body in
-    omega arith
 
 -- a key has at most 64 bytes
 first_short : (ws : List (List ℕ)) → every (λ w. leb (length w) 64) ws ≡ true → length (first_word ws) ≤ 64

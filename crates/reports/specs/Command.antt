@@ -39,16 +39,16 @@ fits sweep = true
 abbrev pub none : Command → Bool
 none c = false
 
--- what is known so far: put, remove, note and fetch
-abbrev pub keeping : Command → Bool
-keeping (put n t b) = true
-keeping (remove n) = true
-keeping note = true
-keeping (ask k q) = false
-keeping (how_many q) = false
-keeping (fetch n) = true
-keeping (list_words p k) = false
-keeping sweep = false
+-- what is known so far: remove, note and fetch
+abbrev pub finding : Command → Bool
+finding (put n t b) = false
+finding (remove n) = true
+finding note = true
+finding (ask k q) = false
+finding (how_many q) = false
+finding (fetch n) = true
+finding (list_words p k) = false
+finding sweep = false
 
 -- the small core: asking and counting by words and "both", and keeping documents
 unfoldable pub core_query : Query → Bool

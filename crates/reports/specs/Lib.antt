@@ -4,17 +4,10 @@ pub mod Request
 pub mod Plain
 pub mod Run
 pub mod Moves
-pub mod Procedures
-pub mod Lookup
 pub mod Registers
 pub mod Machine
 pub mod Layout
-pub mod Merging
-pub mod Copying
-pub mod Gathering
-pub mod Laying
 pub mod Entry
 pub mod Stepping
 pub mod Promise
-pub mod Stops
 pub mod Examples

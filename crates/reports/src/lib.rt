@@ -1,14 +1,6 @@
 // The engine as a machine: one step at a time, told one thing and doing one act.
-mod changing;
-mod committing;
-mod copying;
 mod events;
-mod gathering;
-mod laying;
-mod lookup;
 mod machine;
-mod merging;
-mod procedures;
 mod reader;
 mod registers;
 mod starting;

@@ -1,22 +1,16 @@
 // The registers of the machine, and where they stand in its memory.
-ghost use Rattle.std.specs.Prelude.{◌≡◌, ◌+◌, ◌≤◌, [], ◌∷◌, length, Some};
+ghost use Rattle.std.specs.Prelude.{◌≡◌, ◌+◌, ◌≤◌, [], ◌∷◌, length};
 ghost use Rattle.pages.specs.Head.{segment_numbers, root_numbers};
 ghost use Rattle.pages.specs.Places.{written};
-ghost use Rattle.reports.specs.Registers.{phase_number, phase_of, kind_number, kind_of, is_put, segment_in, root_in, standing_in, standing_numbers, ledger_in, ledger_numbers, target_in, target_numbers, job_in, job_numbers, procedure_numbers, registers_in, register_numbers, at_phase, refusal_next, ledger_at};
+ghost use Rattle.reports.specs.Registers.{phase_number, phase_of, segment_in, root_in, standing_in, standing_numbers, ledger_in, ledger_numbers, registers_in, register_numbers, at_phase, refusal_next};
 
-use crate::Told;
-use crate::copying::Copy;
-use crate::gathering::Gather;
-use crate::laying::Lay;
-use crate::lookup::Lookup;
-use crate::merging::Merge;
 use pages::{Head, Root, Segment, Standing};
 
 // How many numbers the machine's memory has.
 pub const CELLS: usize = 262_144;
 
 // How many of them are registers; the regions stand behind these.
-pub(crate) const REGISTERS: usize = 110;
+pub(crate) const REGISTERS: usize = 44;
 
 // What the machine is at.
 #[derive(Clone, Copy)]
@@ -37,24 +31,6 @@ pub enum Phase {
     Settling,
     // What was asked for is done.
     Finishing,
-    // A name is looked for.
-    Looking,
-    // The document to be shown is read.
-    Gathering,
-    // Its title is to be shown.
-    Titling,
-    // Its body is to be shown.
-    Telling,
-    // A change: what is asked is copied to the other half.
-    Keeping,
-    // A change: the rows of what is coming are merged with those of the document in memory.
-    Merging,
-    // A change: the documents before the one that goes are copied.
-    Leading,
-    // A change: the documents behind it are copied.
-    Trailing,
-    // A change: the document in memory is written.
-    Laying,
 }
 
 impl Phase {
@@ -71,15 +47,6 @@ impl Phase {
             Phase::Heading => 5,
             Phase::Settling => 6,
             Phase::Finishing => 7,
-            Phase::Looking => 8,
-            Phase::Gathering => 9,
-            Phase::Titling => 10,
-            Phase::Telling => 11,
-            Phase::Keeping => 12,
-            Phase::Merging => 13,
-            Phase::Leading => 14,
-            Phase::Trailing => 15,
-            Phase::Laying => 16,
         }
     }
 
@@ -95,15 +62,6 @@ impl Phase {
             5 => Phase::Heading,
             6 => Phase::Settling,
             7 => Phase::Finishing,
-            8 => Phase::Looking,
-            9 => Phase::Gathering,
-            10 => Phase::Titling,
-            11 => Phase::Telling,
-            12 => Phase::Keeping,
-            13 => Phase::Merging,
-            14 => Phase::Leading,
-            15 => Phase::Trailing,
-            16 => Phase::Laying,
             _ => Phase::Idle,
         }
     }
@@ -122,171 +80,57 @@ pub struct Ledger {
     pub coming: Root,
 }
 
-// What the next commit has the head name: the half in use, how far it is filled, and the root that is asked from then on.
-#[derive(Clone, Copy)]
-pub struct Target {
-    pub half: u64,
-    pub end: u64,
-    pub root: Root,
-}
-
-// What is to be done with the document that is looked for.
-#[derive(Clone, Copy)]
-pub enum Kind {
-    Fetch,
-    Remove,
-    Put,
-}
-
-impl Kind {
-    // The number that stands for a kind in memory.
-    fn number(self) -> u64
-        ensures { result ≡ kind_number self }
-    {
-        match self {
-            Kind::Fetch => 0,
-            Kind::Remove => 1,
-            Kind::Put => 2,
-        }
-    }
-
-    // The kind that a number of memory stands for.
-    fn of(number: u64) -> Kind
-        ensures { result ≡ kind_of number }
-    {
-        match number {
-            1 => Kind::Remove,
-            2 => Kind::Put,
-            _ => Kind::Fetch,
-        }
-    }
-
-    // Whether a document is put.
-    pub(crate) fn is_put(self) -> bool
-        ensures { result ≡ is_put self }
-    {
-        match self {
-            Kind::Put => true,
-            _ => false,
-        }
-    }
-}
-
-// What was said of a document: what is to be done, its name, and of one that is put how long its title and its body are and
-// how many words both have.
-#[derive(Clone, Copy)]
-pub struct Job {
-    pub kind: Kind,
-    pub name: u64,
-    pub title_len: u64,
-    pub body_len: u64,
-    pub words: u64,
-}
-
 #[derive(Clone, Copy)]
 pub struct Registers {
     pub phase: Phase,
     // The number of the refusal that is to come.
     pub reply: u64,
     pub ledger: Ledger,
-    pub target: Target,
-    pub job: Job,
-    pub lookup: Lookup,
-    pub copy: Copy,
-    pub merge: Merge,
-    pub lay: Lay,
-    pub gather: Gather,
 }
-
-// Where the parts of the registers stand in memory.
-const LEDGER: usize = 2;
-
-const TARGET: usize = 44;
-
-const JOB: usize = 64;
-
-const LOOKUP: usize = 69;
-
-const COPY: usize = 80;
-
-const MERGE: usize = 84;
-
-const LAY: usize = 100;
-
-const GATHER: usize = 106;
 
 impl Registers {
     // The registers as they stand at the front of memory.
     pub(crate) fn load(memory: &[u64]) -> Registers
-        requires { 110 ≤ length memory.now }
+        requires { 44 ≤ length memory.now }
         ensures { result ≡ registers_in memory.now }
     {
         Registers {
             phase: Phase::of(memory[0]),
             reply: memory[1],
-            ledger: load_ledger(memory, LEDGER),
-            target: load_target(memory, TARGET),
-            job: load_job(memory, JOB),
-            lookup: Lookup::load(memory, LOOKUP),
-            copy: Copy::load(memory, COPY),
-            merge: Merge::load(memory, MERGE),
-            lay: Lay::load(memory, LAY),
-            gather: Gather::load(memory, GATHER),
+            ledger: load_ledger(memory, 2),
         }
     }
 
     // Puts the registers back to the front of memory.
     pub(crate) fn store(self, memory: &mut [u64])
-        requires { 110 ≤ length memory.old }
+        requires { 44 ≤ length memory.old }
         ensures { memory.new ≡ written memory.old 0 (register_numbers self) }
     {
         put(memory, 0, self.phase.number());
         put(memory, 1, self.reply);
-        put_ledger(memory, LEDGER, self.ledger);
-        put_target(memory, TARGET, self.target);
-        put_job(memory, JOB, self.job);
-        self.store_procedures(memory);
+        put_ledger(memory, 2, self.ledger);
     }
 
-    // Puts the registers of the procedures back to memory.
-    fn store_procedures(self, memory: &mut [u64])
-        requires { 110 ≤ length memory.old }
-        ensures { memory.new ≡ written memory.old 69 (procedure_numbers self) }
+    // The same registers at another phase.
+    pub(crate) fn at(self, phase: Phase) -> Registers
+        ensures { result ≡ at_phase phase self }
     {
-        self.lookup.store(memory, LOOKUP);
-        self.copy.put(memory, COPY);
-        self.merge.put(memory, MERGE);
-        self.lay.put(memory, LAY);
-        self.gather.put(memory, GATHER);
+        Registers {
+            phase,
+            reply: self.reply,
+            ledger: self.ledger,
+        }
     }
 
-    // The same registers, about to refuse with this number.
+    // About to refuse, with this number.
     pub(crate) fn refusing(self, reply: u64) -> Registers
         ensures { result ≡ refusal_next reply self }
     {
-        let mut registers = self;
-        registers.phase = Phase::Refusing;
-        registers.reply = reply;
-        registers
-    }
-
-    // On to a phase, with an act.
-    pub(crate) fn goes(&mut self, phase: Phase, act: Told) -> Option<Told>
-        ensures registers { self.new ≡ at_phase phase self.old }
-        ensures act { result ≡ Some act }
-    {
-        self.phase = phase;
-        Some(act)
-    }
-
-    // The same registers with another ledger, at a phase.
-    pub(crate) fn with_ledger(self, phase: Phase, ledger: Ledger) -> Registers
-        ensures { result ≡ ledger_at phase ledger self }
-    {
-        let mut registers = self;
-        registers.phase = phase;
-        registers.ledger = ledger;
-        registers
+        Registers {
+            phase: Phase::Refusing,
+            reply,
+            ledger: self.ledger,
+        }
     }
 }
 
@@ -347,33 +191,8 @@ fn load_ledger(memory: &[u64], at: usize) -> Ledger
     }
 }
 
-fn load_target(memory: &[u64], at: usize) -> Target
-    requires { at + 20 ≤ length memory.now }
-    ensures { result ≡ target_in memory.now at }
-{
-    let root = load_root(memory, at + 2);
-    Target {
-        half: memory[at],
-        end: memory[at + 1],
-        root,
-    }
-}
-
-fn load_job(memory: &[u64], at: usize) -> Job
-    requires { at + 5 ≤ length memory.now }
-    ensures { result ≡ job_in memory.now at }
-{
-    Job {
-        kind: Kind::of(memory[at]),
-        name: memory[at + 1],
-        title_len: memory[at + 2],
-        body_len: memory[at + 3],
-        words: memory[at + 4],
-    }
-}
-
 // One number to its place in memory.
-pub(crate) fn put(memory: &mut [u64], at: usize, n: u64)
+fn put(memory: &mut [u64], at: usize, n: u64)
     requires { at + 1 ≤ length memory.old }
     ensures { memory.new ≡ written memory.old at (n ∷ []) }
 {
@@ -421,24 +240,4 @@ fn put_ledger(memory: &mut [u64], at: usize, ledger: Ledger)
     put(memory, at + 1, ledger.end);
     put_standing(memory, at + 2, ledger.stands);
     put_root(memory, at + 24, ledger.coming);
-}
-
-fn put_target(memory: &mut [u64], at: usize, target: Target)
-    requires { at + 20 ≤ length memory.old }
-    ensures { memory.new ≡ written memory.old at (target_numbers target) }
-{
-    put(memory, at, target.half);
-    put(memory, at + 1, target.end);
-    put_root(memory, at + 2, target.root);
-}
-
-fn put_job(memory: &mut [u64], at: usize, job: Job)
-    requires { at + 5 ≤ length memory.old }
-    ensures { memory.new ≡ written memory.old at (job_numbers job) }
-{
-    put(memory, at, job.kind.number());
-    put(memory, at + 1, job.name);
-    put(memory, at + 2, job.title_len);
-    put(memory, at + 3, job.body_len);
-    put(memory, at + 4, job.words);
 }

@@ -1,7 +1,9 @@
 // Coming up: the two head pages are read, and the head that counts says what is kept.
 ghost use Rattle.std.specs.Prelude.{◌≡◌};
 ghost use Rattle.pages.specs.Head.{read_head, chosen};
-ghost use Rattle.reports.specs.Machine.{waking, first_told, up, found_first};
+ghost use Rattle.pages.specs.Lists.{pick};
+ghost use Rattle.pages.specs.Device.{a_page};
+ghost use Rattle.reports.specs.Machine.{waking, up, page_told, found_first, first_found};
 
 use crate::registers::{Ledger, Phase, Registers};
 use pages::{Head, Root, Segment, Standing};
@@ -37,22 +39,39 @@ const NO_STANDING: Standing = Standing {
 };
 
 // The registers where power comes: nothing is known yet but how many pages there are.
-pub(crate) fn wake(registers: Registers, n: u64) -> Registers
-    ensures { result ≡ waking n registers }
+pub(crate) fn wake(n: u64) -> Registers
+    ensures { result ≡ waking n }
 {
     let pages = if n <= MOST_PAGES { n } else { 0 };
-    let ledger = Ledger {
-        pages,
-        end: 0,
-        stands: NO_STANDING,
-        coming: EMPTY_ROOT,
-    };
-    registers.with_ledger(Phase::First, ledger)
+    Registers {
+        phase: Phase::First,
+        reply: 0,
+        ledger: Ledger {
+            pages,
+            end: 0,
+            stands: NO_STANDING,
+            coming: EMPTY_ROOT,
+        },
+    }
+}
+
+// Takes in a page that was wanted, the first head page or the second. What is no page is not taken for one.
+pub(crate) fn take_page(registers: Registers, page: &[u8]) -> Registers
+    ensures { result ≡ pick (a_page page.now) (page_told registers.phase registers page.now) registers }
+{
+    if page.len() != 512 || !pages::are_bytes(page) {
+        return registers;
+    }
+    match registers.phase {
+        Phase::First => first_head(registers, page),
+        Phase::Second => second_head(registers, page),
+        _ => registers,
+    }
 }
 
 // The head on the first page is kept beside what comes from the second.
-pub(crate) fn first_head(registers: Registers, page: &[u8]) -> Registers
-    ensures { result ≡ first_told registers (read_head page.now) }
+fn first_head(registers: Registers, page: &[u8]) -> Registers
+    ensures { result ≡ page_told Phase.First registers page.now }
 {
     let stands = match pages::read_head(page) {
         Some(head) => Standing { page: 0, head },
@@ -64,12 +83,16 @@ pub(crate) fn first_head(registers: Registers, page: &[u8]) -> Registers
         stands,
         coming: registers.ledger.coming,
     };
-    registers.with_ledger(Phase::Second, ledger)
+    Registers {
+        phase: Phase::Second,
+        reply: registers.reply,
+        ledger,
+    }
 }
 
 // With the head on the second page it is known which one counts. A device that has neither is refused.
-pub(crate) fn second_head(registers: Registers, page: &[u8]) -> Registers
-    ensures { result ≡ up registers (chosen (found_first registers.ledger.stands) (read_head page.now)) }
+fn second_head(registers: Registers, page: &[u8]) -> Registers
+    ensures { result ≡ page_told Phase.Second registers page.now }
 {
     let held = registers.ledger.stands;
     let first = if held.page == 0 {
@@ -91,5 +114,9 @@ pub(crate) fn second_head(registers: Registers, page: &[u8]) -> Registers
         stands,
         coming: stands.head.root,
     };
-    registers.with_ledger(Phase::Finishing, ledger)
+    Registers {
+        phase: Phase::Finishing,
+        reply: registers.reply,
+        ledger,
+    }
 }

@@ -1,14 +1,13 @@
 // The engine's promises: theorems, each on the contract of a function that has its name, so that the crate is proved only with its proof.
-ghost use Rattle.reports.specs.Command.{keeping};
+ghost use Rattle.reports.specs.Command.{finding};
 ghost use Rattle.reports.specs.Examples.{ExamplesHold};
 ghost use Rattle.reports.specs.Layout.{LayoutFits};
 ghost use Rattle.reports.specs.Machine.{own};
 ghost use Rattle.reports.specs.Promise.{Whole, SpelledOnce, FoundInOrder, AnyOrder, WorthBounded, PhraseWords, Sets, SameTillNoted, Fair, FlushedStays};
-ghost use Rattle.reports.specs.Stops.{AskedTillNoted, StopStands};
 
 // THE MAIN PROMISE: on every device, whatever is said and whenever power stops, the engine does what the plain engine does.
 pub fn whole() -> u8
-    ensures { Whole keeping own }
+    ensures { Whole finding own }
 {
     0
 }
@@ -65,20 +64,6 @@ pub fn sets() -> u8
 // Between two notes every asking shows the same, whatever is put and removed.
 pub fn same_till_noted() -> u8
     ensures { SameTillNoted }
-{
-    0
-}
-
-// What is asked is unchanged by anything but a note and a sweep.
-pub fn asked_till_noted() -> u8
-    ensures { AskedTillNoted }
-{
-    0
-}
-
-// After a stop at any act of any command the documents noted stand, and nothing of what was not.
-pub fn stop_stands() -> u8
-    ensures { StopStands }
 {
     0
 }

@@ -9,7 +9,7 @@ pub loop-i-preserved : goal.loop-i-preserved
 loop-i-preserved c =
     let i = c.loop-i.i in
     let bs = c.args.bytes.now in
-    (copied_more c.loop-i.cells bs i (omega arith) (omega arith) c.loop-i.invariant.0, all_bytes_more bs i (omega arith) (omega (arith, c.type-inv.bytes i)) c.loop-i.invariant.1)
+    (copied_more c.loop-i.cells bs i (omega arith) (omega arith) c.loop-i.invariant.0, all_bytes_more bs i (omega arith) (omega (arith, c.type_inv.bytes i)) c.loop-i.invariant.1)
 
 pub returns : goal.returns
 returns c =

@@ -27,11 +27,11 @@ loop-i-init c =
       | else-bytes-lt8 w ↦ (refl, omega arith, ap (λ n. take n xs) w.count-is, omega (arith, w.count-is), omega (arith, w.count-is, w.if-bytes-lt8.false))
     ]
 
-pub overflow-mul-n : goal.overflow-mul-n
-overflow-mul-n c = let h = room c.loop-i.i c.loop-i.n 0 (omega arith) c.loop-i.invariant.1 (omega arith) in record { fits = omega arith }
+pub overflow_mul-n : goal.overflow_mul-n
+overflow_mul-n c = let h = room c.loop-i.i c.loop-i.n 0 (omega arith) c.loop-i.invariant.1 (omega arith) in record { fits = omega arith }
 
-pub overflow-add-n : goal.overflow-add-n
-overflow-add-n c = record { fits = room c.loop-i.i c.loop-i.n _ (omega arith) c.loop-i.invariant.1 (omega (arith, c.type-inv.bytes c.loop-i.i)) }
+pub overflow_add-n : goal.overflow_add-n
+overflow_add-n c = record { fits = room c.loop-i.i c.loop-i.n _ (omega arith) c.loop-i.invariant.1 (omega (arith, c.type_inv.bytes c.loop-i.i)) }
 
 pub loop-i-preserved : goal.loop-i-preserved
 loop-i-preserved c =
@@ -39,7 +39,7 @@ loop-i-preserved c =
     let i = c.loop-i.i in
     let b = get_or xs i 0 in
     let h : i < length xs = omega arith in
-    let s : b < 256 = omega (arith, c.type-inv.bytes i) in (
+    let s : b < 256 = omega (arith, c.type_inv.bytes i) in (
       ap (λ n. 256 * n + b) c.loop-i.invariant.0 ∙ sym (from_eight_push (take i xs) 0 b) ∙ ap (from_eight 0) (sym (take_more xs i 0 h)),
       from_eight_less i c.loop-i.n b c.loop-i.invariant.1 s,
       c.loop-i.invariant.2,

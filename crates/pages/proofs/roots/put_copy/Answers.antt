@@ -11,4 +11,4 @@ returns c =
     let l : at ≤ length o = omega arith in
     let two = numbers_then o at (at + 8) (h.sequence ∷ []) (h.half ∷ []) l (omega arith) c.put.ensures c.put-2.ensures in
     let three = numbers_then o at (at + 16) (h.sequence ∷ h.half ∷ []) (h.end ∷ []) l (omega arith) two c.put-3.ensures in
-    numbers_then o at (at + 24) (h.sequence ∷ h.half ∷ h.end ∷ []) (root_numbers h.root) l (omega arith) three c.put-root.ensures
+    numbers_then o at (at + 24) (h.sequence ∷ h.half ∷ h.end ∷ []) (root_numbers h.root) l (omega arith) three c.put_root.ensures

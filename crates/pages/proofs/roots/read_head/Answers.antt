@@ -8,8 +8,8 @@ returns-then-page-ne512 c =
     let p = c.args.page.now in
     elim c.then-page-ne512.branch [
       | then-page-ne512-via-then-page-ne512 w ↦ sym (read_no_page p w.if-page-ne512.true)
-      | then-page-ne512-via-else-page-ne512+then-not-same-copies w ↦ sym (read_differing p (sym w.same-copies.ensures ∙ w.if-not-same-copies.true))
+      | then-page-ne512-via-else-page-ne512+then-not-same-copies w ↦ sym (read_differing p (sym w.same_copies.ensures ∙ w.if-not-same_copies.true))
     ]
 
 pub returns : goal.returns
-returns c = let p = c.args.page.now in ap Some c.read-copy.ensures ∙ sym (read_agreeing p c.if-page-ne512.false (sym c.if-not-same-copies.ensures))
+returns c = let p = c.args.page.now in ap Some c.read_copy.ensures ∙ sym (read_agreeing p c.if-page-ne512.false (sym c.if-not-same_copies.ensures))

@@ -1,6 +1,6 @@
 use Rattle.std.proofs.Common.{◌≡◌, ℕ, ◌+◌, ◌-◌, ◌<◌, Bool, List, length, sym, subst, arith}
 use Rattle.places.specs.Tokens.{Chosen}
-use Rattle.places.proofs.Merged.{Merging, merging_none, merging_left, merging_right, merging_all, merging_same, next_right}
+use Rattle.places.proofs.Merged.{Merging, merging_none, merging_left, merging_right, merging_all, next_right}
 use Rattle.places.proofs.sort.merge.Goals as goal
 use Rattle.places.proofs.sort.merge.Goals.{then-left-first, else-left-first}
 
@@ -29,12 +29,4 @@ loop-k-preserved c =
     ]
 
 pub returns : goal.returns
-returns c =
-    let title = c.args.title.now in
-    let body = c.args.body.now in
-    let left = c.args.left.now in
-    let right = c.args.right.now in
-    record {
-      same = merging_same title body left right c.loop-k.i c.loop-k.k c.loop-k.out c.loop-k.invariant (omega arith);
-      rows = merging_all title body left right c.loop-k.i c.loop-k.k c.loop-k.out c.loop-k.invariant (omega arith);
-    }
+returns c = merging_all c.args.title.now c.args.body.now c.args.left.now c.args.right.now c.loop-k.i c.loop-k.k c.loop-k.out c.loop-k.invariant (omega arith)

@@ -1,11 +1,8 @@
 use Rattle.std.proofs.Common.{◌≡◌, ℕ, ◌-◌, ◌≤◌, List, ◌++◌, length, take, drop, sym, ap, ◌∙◌, subst, arith, length-take}
 use Rattle.std.proofs.lemmas.Bool.{and_from, le-leb}
 use Rattle.pages.proofs.Sorted.{Different}
-use Rattle.pages.proofs.Perm.{Perm}
-use Rattle.words.specs.Words.{words}
 use Rattle.places.specs.Places.{sorted_rows}
 use Rattle.places.specs.Tokens.{rows_of_tokens}
-use Rattle.places.proofs.Made.{fit_few}
 use Rattle.places.proofs.Merged.{index_different, index_sorted}
 use Rattle.places.proofs.sort.place_words.Goals as goal
 
@@ -32,10 +29,8 @@ returns c =
     let x = c.in-ok-n.ensures.made in
     let e : n - 0 ≡ n = omega arith in
     let l : length out ≡ n = omega (arith, c.sort.auto.tokens, length-take (n - 0) mid, c.index-words.auto.tokens, x.within) in
-    let few : length (words body) ≤ 32768 = fit_few title body (length c.args.tokens.now) (sym c.in-ok-n.ensures.fits) in
     record {
       fits = sym (and_from _ _ (le-leb _ _ (omega arith)) (sym c.in-ok-n.ensures.fits));
-      placed = index_sorted title body c.args.tokens.now mid out (out ++ drop (n - 0) mid) n x few l
-          (subst (λ (k : ℕ). Perm (take k mid) out) e c.sort.ensures.same)
-          (λ doc. c.sort.ensures.rows doc ∙ ap (λ k. sorted_rows (rows_of_tokens doc title body (take k mid))) e) (ap (λ k. out ++ drop k mid) e);
+      placed = index_sorted title body c.args.tokens.now mid out (out ++ drop (n - 0) mid) n x l
+          (λ doc. c.sort.ensures doc ∙ ap (λ k. sorted_rows (rows_of_tokens doc title body (take k mid))) e) (ap (λ k. out ++ drop k mid) e);
     }

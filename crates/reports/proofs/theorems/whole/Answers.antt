@@ -1,5 +1,5 @@
-use Rattle.reports.proofs.Whole.{whole_keeping}
+use Rattle.reports.proofs.Whole.{whole_finding}
 use Rattle.reports.proofs.theorems.whole.Goals as goal
 
 pub returns : goal.returns
-returns c = whole_keeping
+returns c = whole_finding

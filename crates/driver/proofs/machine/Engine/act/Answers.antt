@@ -13,7 +13,7 @@ pub returns-in-ok-write : goal.returns-in-ok-write
 returns-in-ok-write g c = record {
   few = omega arith;
   same = (refl, refl);
-  made = λ a out told w h. let said = c.in-ok-write.ensures w.device h in acted_write g.D.Device.stands w a out _ _ _ c.take-lent.new.page _ _ _ _ _ c.in-Write.is told said.0 (search rules) said.1 c.take-lent.ensures.bytes refl refl;
+  made = λ a out told w h. let said = c.in-ok-write.ensures w.device h in acted_write g.D.Device.stands w a out _ _ _ c.copy-from-slice.new.self _ _ _ _ _ c.in-Write.is told said.0 (search rules) said.1 c.hold-bytes.ensures refl refl;
 }
 
 pub returns-in-ok-flush : goal.returns-in-ok-flush

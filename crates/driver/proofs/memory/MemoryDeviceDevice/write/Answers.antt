@@ -1,4 +1,4 @@
-use Rattle.std.proofs.Common.{◌≡◌, length, set, refl, ap, ◌∙◌, inr, arith}
+use Rattle.std.proofs.Common.{◌≡◌, length, set, refl, ap, ◌∙◌, arith}
 use Rattle.driver.proofs.Rows.{set_page_set, all_written_more, length_all_written}
 use Rattle.driver.proofs.memory.MemoryDeviceDevice.write.Goals as goal
 
@@ -12,4 +12,4 @@ returns c d e =
 
 pub returns-then-page-len : goal.returns-then-page-len
 returns-then-page-len c d e =
-    inr (e, omega (arith, length_all_written d.pages d.queue, ap length e, c.args.self.now.pages.ok.0), refl)
+    (e, omega (arith, length_all_written d.pages d.queue, ap length e, c.args.self.now.pages.ok.0), refl)

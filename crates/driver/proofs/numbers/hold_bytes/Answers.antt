@@ -1,0 +1,5 @@
+use Rattle.pages.proofs.Bytes.{all_bytes_places}
+use Rattle.driver.proofs.numbers.hold_bytes.Goals as goal
+
+pub returns : goal.returns
+returns c = all_bytes_places c.args.bytes.now (λ i. (c.type-inv.bytes i).fits)
