@@ -1,4 +1,6 @@
 // The engine for a person at a keyboard.
+#![tactic(auto)]
+
 use console::{Request, answer, command_bytes, open_engine, read_request, report};
 use driver::{Engine, FileDevice, MOST_ACTS};
 use std::io::{BufRead, BufReader, Write};

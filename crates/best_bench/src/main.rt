@@ -1,4 +1,6 @@
 // How much work it is to keep the best 1,000 of 65,536 hits: comparisons and moves, where the hits come in a good, a mixed and a bad order.
+#![tactic(auto)]
+
 use questions::Reply;
 use questions::hits::{Hit, put_in};
 use std::alloc::{AllocError, Global};

@@ -1,4 +1,6 @@
 // What people and programs at the other end of a line type and read: bytes as hexadecimal digits, commands as words.
+#![tactic(auto)]
+
 mod answers;
 mod hex;
 mod opening;

@@ -1,4 +1,6 @@
 // A document on pages: its header, its pages, and how many pages documents take.
+#![tactic(auto)]
+
 mod layout;
 mod theorems;
 

@@ -1,4 +1,6 @@
 // Drives the engine: tells it what happens, and does on a device of pages what it asks for.
+#![tactic(auto)]
+
 mod devices;
 mod faults;
 mod files;

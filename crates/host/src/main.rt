@@ -1,4 +1,6 @@
 // Drives the engine on a file of pages, by commands in hexadecimal digits, one to a line.
+#![tactic(auto)]
+
 use console::{bytes_of_hex, hex_of, open_engine, report};
 use driver::{End, Engine, FileDevice, MOST_ACTS};
 use std::io::{BufRead, BufReader};

@@ -1,4 +1,6 @@
 // Pages of 512 bytes, the numbers on them, and pages in memory; the head of a device, and which one counts after a stop.
+#![tactic(auto)]
+
 mod cells;
 mod numbers;
 mod roots;

@@ -1,4 +1,6 @@
 // Where the words of a document stand, as sorted rows in lent memory: one number for each word.
+#![tactic(auto)]
+
 mod laws;
 mod reading;
 mod sort;

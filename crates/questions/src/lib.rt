@@ -1,4 +1,6 @@
 // Questions: read from their bytes, and the best of the hits that they have.
+#![tactic(auto)]
+
 ghost use Rattle.std.specs.Prelude.{◌≡◌};
 ghost use Rattle.questions.specs.Best.{smaller};
 

@@ -1,4 +1,6 @@
 // Commands as bytes: each kind is read, and each way of being no command is refused.
+#![tactic(auto)]
+
 #[cfg(test)]
 mod tests {
     use reports::{Request, read_command};

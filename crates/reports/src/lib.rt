@@ -1,4 +1,6 @@
 // The engine as a machine: one step at a time, told one thing and doing one act.
+#![tactic(auto)]
+
 mod events;
 mod machine;
 mod reader;

@@ -1,4 +1,6 @@
 // Sorted rows on pages: a key, a document and a place; how they lie on a page, how they are compared, read and written.
+#![tactic(auto)]
+
 mod cursor;
 mod inplace;
 mod laws;

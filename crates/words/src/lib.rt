@@ -1,5 +1,7 @@
 // The words of a text, one after the other as they stand in it, and their order. The text is lent and never copied:
 // a word is its place in the text, and capitals are made small as bytes are compared.
+#![tactic(auto)]
+
 ghost use Rattle.std.specs.Prelude.{◌≡◌, ◌+◌, [], length, take, drop, MatchOption};
 ghost use Rattle.words.specs.Words.{in_word, small, words};
 ghost use Rattle.pages.specs.Lists.{pick, each};
