@@ -18,7 +18,7 @@ loop-i-preserved c =
     let page : List ℕ = filled 512 (take 504 (drop c.args.start bs)) in
     let byte : c.if-i-lt-CONTENT.out ≡ get_or page i 0 =
     elim c.if-i-lt-CONTENT.branch [
-      | then-i-lt-CONTENT w ↦ w.out-is ∙ w.byte-at.ensures ∙ sym (stretch_place bs c.args.start i w.if-i-lt-CONTENT.true)
+      | then-i-lt-CONTENT w ↦ w.out-is ∙ w.byte_at.ensures ∙ sym (stretch_place bs c.args.start i w.if-i-lt-CONTENT.true)
       | else-i-lt-CONTENT w ↦ w.out-is ∙ sym (stretch_kept bs c.args.start i w.if-i-lt-CONTENT.false)
     ] in
     let more = one_place_more c.args.out.now page i (omega (arith, length_stretch bs c.args.start)) (omega arith) in

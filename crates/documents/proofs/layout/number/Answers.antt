@@ -5,11 +5,11 @@ use Rattle.pages.proofs.Bytes.{from_eight_less}
 use Rattle.documents.proofs.Copied.{bytes_more, bytes_here, room_for_byte}
 use Rattle.documents.proofs.layout.number.Goals as goal
 
-pub overflow-mul-n : goal.overflow-mul-n
-overflow-mul-n c = let h = room_for_byte c.loop-cell.cell-index c.loop-cell.n 0 (omega arith) c.loop-cell.invariant.1 (omega arith) in record { fits = omega arith }
+pub overflow_mul-n : goal.overflow_mul-n
+overflow_mul-n c = let h = room_for_byte c.loop-cell.cell-index c.loop-cell.n 0 (omega arith) c.loop-cell.invariant.1 (omega arith) in record { fits = omega arith }
 
-pub overflow-add-n : goal.overflow-add-n
-overflow-add-n c =
+pub overflow_add-n : goal.overflow_add-n
+overflow_add-n c =
     let b = bytes_here c.args.cells.now c.loop-cell.cell-index (omega arith) c.loop-cell.invariant.2 in
     record { fits = room_for_byte c.loop-cell.cell-index c.loop-cell.n _ (omega arith) c.loop-cell.invariant.1 b }
 

@@ -19,11 +19,11 @@ returns c =
     let less : index < page_count (length title) (length body) = omega arith in
     let lt = sym (length_each (λ x. x % 256) title) in
     let lb = sym (length_each (λ x. x % 256) body) in
-    let header = c.spell-header-header.ensures ∙ (λ i. header_bytes (record { name = name; title_len = lt i; body_len = lb i; words = words })) in
+    let header = c.spell_header-header.ensures ∙ (λ i. header_bytes (record { name = name; title_len = lt i; body_len = lb i; words = words })) in
     let place : index * 504 ≡ 504 * index = omega arith in
     record {
       fits = sym (and_from _ _ (and_from _ _ (le-leb _ _ c.if-out-lt-PAGE.false) (and_from _ _ (le-leb _ _ c.if-title-gt255.false) (le-leb _ _ c.if-body-gt65535.false))) (lt-ltb _ _ less));
       out =
-          c.fill-page.ensures ∙ ap (λ h. written out 0 (filled 512 (take 504 (drop (index * 504) (h ++ (t ++ b)))))) header
+          c.fill_page.ensures ∙ ap (λ h. written out 0 (filled 512 (take 504 (drop (index * 504) (h ++ (t ++ b)))))) header
           ∙ ap (λ n. written out 0 (filled 512 (take 504 (drop n (content_of name t b words))))) place;
     }
