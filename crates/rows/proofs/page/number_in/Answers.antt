@@ -21,11 +21,11 @@ loop-i-init c = (refl, omega arith, refl)
 pub returns-then-cells-i-gt255 : goal.returns-then-cells-i-gt255
 returns-then-cells-i-gt255 c = not_bytes c.args.cells.now c.loop-i.i (omega arith) c.if-cells-i-gt255.true
 
-pub overflow-mul-n : goal.overflow-mul-n
-overflow-mul-n c = let h = room c.loop-i.i c.loop-i.n 0 (omega arith) c.loop-i.invariant.1 (omega arith) in record { fits = omega arith }
+pub overflow_mul-n : goal.overflow_mul-n
+overflow_mul-n c = let h = room c.loop-i.i c.loop-i.n 0 (omega arith) c.loop-i.invariant.1 (omega arith) in record { fits = omega arith }
 
-pub overflow-add-n : goal.overflow-add-n
-overflow-add-n c =
+pub overflow_add-n : goal.overflow_add-n
+overflow_add-n c =
     let h = room c.loop-i.i c.loop-i.n (get_or c.args.cells.now c.loop-i.i 0) (omega arith) c.loop-i.invariant.1 (omega arith) in
     record { fits = omega arith }
 

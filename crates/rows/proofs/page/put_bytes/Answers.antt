@@ -12,10 +12,10 @@ returns c =
     let size : n ≡ length r.key = omega (arith, c.size-len.ensures.size) in
     let short : length r.key ≤ 64 = omega (arith, c.size-len.ensures.small.1) in
     let cells = c.args.cells.now in
-    let ns = c.put-number.new.cells in
-    let ks = c.copy-out.new.cells in
-    let ds = c.put-number-2.new.cells in
-    let ps = c.put-number-3.new.cells in
+    let ns = c.put_number.new.cells in
+    let ks = c.copy_out.new.cells in
+    let ds = c.put_number-2.new.cells in
+    let ps = c.put_number-3.new.cells in
     let l0 : length ns ≡ 1 = search (rules, places) in
     let l1 : length ks ≡ n = search (rules, places) in
     let l2 : length ds ≡ 4 = search (rules, places) in
@@ -26,5 +26,5 @@ returns c =
     let none : drop (n + 7 - (n + 5)) (drop (n + 5 - (n + 1)) (drop (n + 1 - 1) (drop 1 cells))) ≡ [] =
     drop_all (n + 7 - (n + 5)) (drop (n + 5 - (n + 1)) (drop (n + 1 - 1) (drop 1 cells))) (simp length-drop (omega (arith, c.requires))) in
     a3 ∙ ap (λ xs. (((ns ++ ks) ++ ds) ++ ps) ++ xs) none ∙ append-nil _
-    ∙ row_of_parts r ns ks ds ps short (width_is ns _ n 1 c.put-number.ensures l0 ∙ ap (λ m. in_bytes 1 m []) size) (c.copy-out.ensures ∙ c.key-bytes.ensures)
-    (width_is ds _ r.doc 4 c.put-number-2.ensures l2) (width_is ps _ r.place 2 c.put-number-3.ensures l3)
+    ∙ row_of_parts r ns ks ds ps short (width_is ns _ n 1 c.put_number.ensures l0 ∙ ap (λ m. in_bytes 1 m []) size) (c.copy_out.ensures ∙ c.key_bytes.ensures)
+    (width_is ds _ r.doc 4 c.put_number-2.ensures l2) (width_is ps _ r.place 2 c.put_number-3.ensures l3)

@@ -9,7 +9,7 @@ use Rattle.rows.proofs.page.put_row.Goals.{then-end-lt2-via-then-end-lt2, then-e
 
 pub returns-then-end-lt2 : goal.returns-then-end-lt2
 returns-then-end-lt2 c =
-    let e = c.rows-end-end.ensures.end in
+    let e = c.rows_end-end.ensures.end in
     let s = c.size.ensures.size in
     record {
       fits = no_room c.args.page.now (row_of c.args.row.now)
@@ -24,14 +24,14 @@ returns-then-end-lt2 c =
 
 pub returns : goal.returns
 returns c =
-    let e = c.rows-end-end.ensures.end in
+    let e = c.rows_end-end.ensures.end in
     let s = c.size.ensures.size in
-    let end = c.rows-end-end.result in
+    let end = c.rows_end-end.result in
     let size = c.size.result in
     let k : end + size - end ≡ row_size (row_of c.args.row.now) = omega arith in
-    let l : length c.put-number.new.cells ≡ 2 = search (rules, places) in
+    let l : length c.put_number.new.cells ≡ 2 = search (rules, places) in
     record {
       fits = has_room c.args.page.now (row_of c.args.row.now) (omega arith) (omega arith) (omega arith);
-      page = row_put c.args.page.now (row_of c.args.row.now) end (end + size - end) c.put-bytes.new.cells c.put-number.new.cells e k c.put-bytes.ensures
-          (width_is c.put-number.new.cells _ _ 2 c.put-number.ensures l ∙ ap (λ m. in_bytes 2 m []) (omega arith)) (omega arith) (omega arith);
+      page = row_put c.args.page.now (row_of c.args.row.now) end (end + size - end) c.put_bytes.new.cells c.put_number.new.cells e k c.put_bytes.ensures
+          (width_is c.put_number.new.cells _ _ 2 c.put_number.ensures l ∙ ap (λ m. in_bytes 2 m []) (omega arith)) (omega arith) (omega arith);
     }

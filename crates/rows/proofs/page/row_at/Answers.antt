@@ -6,14 +6,14 @@ use Rattle.rows.proofs.Stand.{stands}
 use Rattle.rows.proofs.page.row_at.Goals as goal
 
 pub returns-then-at-end : goal.returns-then-at-end
-returns-then-at-end c = none_stands c.args.page.now c.args.at (omega (arith, c.rows-end-end.ensures.end))
+returns-then-at-end c = none_stands c.args.page.now c.args.at (omega (arith, c.rows_end-end.ensures.end))
 
-pub returns-in-err-row : goal.returns-in-err-row
-returns-in-err-row c =
-    rw c.from-residual.ensures
-    (stands c.args.page.now c.args.at c.rows-end-end.result c.rows-end-end.ensures.end ∙ ap (stand c.args.at) c.in-err-row.ensures)
+pub returns-in_err-row : goal.returns-in_err-row
+returns-in_err-row c =
+    rw c.from_residual.ensures
+    (stands c.args.page.now c.args.at c.rows_end-end.result c.rows_end-end.ensures.end ∙ ap (stand c.args.at) c.in_err-row.ensures)
 
 pub returns : goal.returns
 returns c =
-    stands c.args.page.now c.args.at c.rows-end-end.result c.rows-end-end.ensures.end ∙ ap (stand c.args.at) c.in-ok-row.ensures.0
-    ∙ ap (λ n. Some (record { row = row_of c.in-ok-row.row; next = c.args.at + n })) (sym c.size.ensures.size)
+    stands c.args.page.now c.args.at c.rows_end-end.result c.rows_end-end.ensures.end ∙ ap (stand c.args.at) c.in_ok-row.ensures.0
+    ∙ ap (λ n. Some (record { row = row_of c.in_ok-row.row; next = c.args.at + n })) (sym c.size.ensures.size)

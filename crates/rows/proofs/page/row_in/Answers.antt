@@ -13,27 +13,27 @@ returns-then-cells-lt7 c =
 pub returns-then-len-cells : goal.returns-then-len-cells
 returns-then-len-cells c = row_in_few c.args.cells.now c.if-len-cells.true
 
-pub returns-in-err-doc : goal.returns-in-err-doc
-returns-in-err-doc c =
-    rw c.from-residual.ensures (no_row_by_doc c.args.cells.now (omega arith) c.in-err-doc.ensures)
+pub returns-in_err-doc : goal.returns-in_err-doc
+returns-in_err-doc c =
+    rw c.from_residual.ensures (no_row_by_doc c.args.cells.now (omega arith) c.in_err-doc.ensures)
 
-pub returns-in-err-place : goal.returns-in-err-place
-returns-in-err-place c =
-    rw c.from-residual-in-err-place.ensures
-    (no_row_by_place c.args.cells.now (omega arith) c.in-err-place.ensures)
+pub returns-in_err-place : goal.returns-in_err-place
+returns-in_err-place c =
+    rw c.from_residual-in_err-place.ensures
+    (no_row_by_place c.args.cells.now (omega arith) c.in_err-place.ensures)
 
-pub returns-then-not-copy-in : goal.returns-then-not-copy-in
-returns-then-not-copy-in c =
-    no_row_by_key c.args.cells.now (omega arith) (sym c.if-not-copy-in.ensures.bytes)
+pub returns-then-not-copy_in : goal.returns-then-not-copy_in
+returns-then-not-copy_in c =
+    no_row_by_key c.args.cells.now (omega arith) (sym c.if-not-copy_in.ensures.bytes)
 
 pub returns : goal.returns
 returns c =
     let xs = c.args.cells.now in
     let h : get_or xs 0 0 + 7 ≤ length xs = omega arith in
-    let d = c.in-ok-doc.ensures in
-    let p = c.in-ok-place.ensures in
-    let k = c.if-not-copy-in.ensures in
-    let key = ap (λ m. take m c.copy-in.new.key) (sym (length_keys xs h)) ∙ k.key refl in (
+    let d = c.in_ok-doc.ensures in
+    let p = c.in_ok-place.ensures in
+    let k = c.if-not-copy_in.ensures in
+    let key = ap (λ m. take m c.copy_in.new.key) (sym (length_keys xs h)) ∙ k.key refl in (
       row_in_cells xs h (omega arith) (sym k.bytes) d.0 p.0 ∙ (λ i. Some (record { key = sym key i; doc = sym d.1 i; place = sym p.1 i })),
       omega arith,
     )
