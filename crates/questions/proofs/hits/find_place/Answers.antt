@@ -15,7 +15,7 @@ returns c =
     let hit = as_hit c.args.hit in
     let t = twice c.search-place.result.compared (2 * (count - 1) + 1) s.1 in
     let last : better hit (hit_at c.args.row.now (count - 1)) ≡ true =
-    sym (c.is-better.ensures ∙ ap (better hit) c.hit-at.ensures) ∙ c.if-not-is-better.false in (
+    sym (c.is_better.ensures ∙ ap (better hit) c.hit_at.ensures) ∙ c.if-not-is_better.false in (
       record {
         within = omega arith;
         before = s.0.before;

@@ -3,7 +3,7 @@ use Rattle.questions.specs.Order.{better}
 use Rattle.questions.specs.Rows.{as_hit, hit_at}
 use Rattle.questions.proofs.Halving.{narrowed_down, narrowed_up}
 use Rattle.questions.proofs.hits.search.Goals as goal
-use Rattle.questions.proofs.hits.search.Goals.{then-is-better, else-is-better}
+use Rattle.questions.proofs.hits.search.Goals.{then-is_better, else-is_better}
 
 pub loop-low-preserved : goal.loop-low-preserved
 loop-low-preserved c =
@@ -11,10 +11,10 @@ loop-low-preserved c =
     let row = c.args.row.now in
     let low = c.loop-low.low in
     let high = c.loop-low.high in
-    let is : c.is-better.result ≡ better hit (hit_at row (low + (high - low) / 2)) = c.is-better.ensures ∙ ap (better hit) c.hit-at.ensures in
-    elim c.if-is-better.branch [
-      | then-is-better w ↦
-          rw (w.low-is, w.high-is) (narrowed_down row c.args.count hit low high c.loop-low.compared c.loop-low.invariant c.loop-low-test.true (sym is ∙ w.if-is-better.true))
-      | else-is-better w ↦
-          rw (w.low-is, w.high-is) (narrowed_up row c.args.count hit low high c.loop-low.compared c.loop-low.invariant c.loop-low-test.true (sym is ∙ w.if-is-better.false))
+    let is : c.is_better.result ≡ better hit (hit_at row (low + (high - low) / 2)) = c.is_better.ensures ∙ ap (better hit) c.hit_at.ensures in
+    elim c.if-is_better.branch [
+      | then-is_better w ↦
+          rw (w.low-is, w.high-is) (narrowed_down row c.args.count hit low high c.loop-low.compared c.loop-low.invariant c.loop-low-test.true (sym is ∙ w.if-is_better.true))
+      | else-is_better w ↦
+          rw (w.low-is, w.high-is) (narrowed_up row c.args.count hit low high c.loop-low.compared c.loop-low.invariant c.loop-low-test.true (sym is ∙ w.if-is_better.false))
     ]

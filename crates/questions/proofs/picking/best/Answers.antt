@@ -8,14 +8,14 @@ use Rattle.questions.proofs.Order.{length_in_order}
 use Rattle.questions.proofs.Rows.{length_hits_in, smaller_is, take_most}
 use Rattle.questions.proofs.picking.best.Goals as goal
 
-pub slice-bounds-keep-best-count : goal.slice-bounds-keep-best-count
-slice-bounds-keep-best-count c = omega (arith, c.in-Ok.ensures)
+pub slice_bounds-keep_best-count : goal.slice_bounds-keep_best-count
+slice_bounds-keep_best-count c = omega (arith, c.in-Ok.ensures)
 
-pub keep-best-requires : goal.keep-best-requires
-keep-best-requires c =
+pub keep_best-requires : goal.keep_best-requires
+keep_best-requires c =
     let f = c.in-Ok.ensures in
     let hits = c.args.hits.now in
-    (omega (arith, ap length (take_rest hits 1), length-drop 1 hits), omega (arith, c.smaller-of-most.ensures))
+    (omega (arith, ap length (take_rest hits 1), length-drop 1 hits), omega (arith, c.smaller_of-most.ensures))
 
 says-refused : (hits out : List ℕ) (k why : ℕ) → 0 < why → refusal hits out k ≡ why → BestSays hits out k (refusal hits out k) (Refused why) out
 unfolding BestSays
@@ -40,5 +40,5 @@ says-best hits out k most n pairs out₁ none is m p e =
 pub returns-in-Ok : goal.returns-in-Ok
 returns-in-Ok c =
     let f = c.in-Ok.ensures in
-    says-best c.args.hits.now c.args.out.now c.args.k c.smaller-of-most.result c.in-Ok.count _ c.keep-best.new.out
-    f.0 f.1 c.smaller-of-most.ensures (take_rest c.args.hits.now 1) c.keep-best.ensures
+    says-best c.args.hits.now c.args.out.now c.args.k c.smaller_of-most.result c.in-Ok.count _ c.keep_best.new.out
+    f.0 f.1 c.smaller_of-most.ensures (take_rest c.args.hits.now 1) c.keep_best.ensures

@@ -23,7 +23,7 @@ loop-i-preserved c =
     drop_hits_more c.args.count c.args.pairs.now i (omega arith) ∙ ap (λ (n : ℕ). hit_at c.args.pairs.now i ∷ drop n hs) e in
     let Put : Hit → Type 0 = λ h. Inserted c.loop-i.out c.loop-i.held c.args.most h c.insert-held.result c.insert-held.new.row in
     rw more (holds_one_more (drop c.loop-i.i hs) c.args.most c.args.out.now c.loop-i.held c.loop-i.out (hit_at c.args.pairs.now i)
-    c.insert-held.result c.insert-held.new.row c.loop-i.invariant (subst Put c.hit-at.ensures c.insert-held.ensures))
+    c.insert-held.result c.insert-held.new.row c.loop-i.invariant (subst Put c.hit_at.ensures c.insert-held.ensures))
 
 -- at the first hit it holds the best of all
 all_held : (hs : List Hit) (n most : ℕ) (row : List ℕ) (i count : ℕ) (row₁ : List ℕ) → length hs ≡ n → i ≤ 0 → HoldsBest (drop i hs) most row count row₁ →

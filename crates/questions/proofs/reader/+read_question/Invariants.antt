@@ -1,4 +1,4 @@
 use Rattle.questions.proofs.reader.+read_question.Given as goal
 
-abbrev pub decreases-read-question : goal.decreases-read-question
-decreases-read-question l = l.depth
+abbrev pub decreases-read_question : goal.decreases-read_question
+decreases-read_question l = l.depth

@@ -1,4 +1,4 @@
 use Rattle.questions.proofs.reader.+read_words.Given as goal
 
-abbrev pub decreases-read-words : goal.decreases-read-words
-decreases-read-words l = l.count
+abbrev pub decreases-read_words : goal.decreases-read_words
+decreases-read_words l = l.count

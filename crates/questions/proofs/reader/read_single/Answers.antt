@@ -3,16 +3,16 @@ use Rattle.questions.proofs.Reading.{single_word, single_phrase, single_begins, 
 use Rattle.questions.proofs.reader.read_single.Goals as goal
 
 pub returns-in-1 : goal.returns-in-1
-returns-in-1 c = single_word c.args.kind c.args.bytes.now c.read-field-word.result c.in-1.is c.read-field-word.ensures
+returns-in-1 c = single_word c.args.kind c.args.bytes.now c.read_field_word.result c.in-1.is c.read_field_word.ensures
 
 pub returns-in-2 : goal.returns-in-2
-returns-in-2 c = single_phrase c.args.kind c.args.bytes.now c.read-field-phrase.result c.in-2.is c.read-field-phrase.ensures
+returns-in-2 c = single_phrase c.args.kind c.args.bytes.now c.read_field_phrase.result c.in-2.is c.read_field_phrase.ensures
 
 pub returns-in-3 : goal.returns-in-3
-returns-in-3 c = single_begins c.args.kind c.args.bytes.now c.read-field-word-in-3.result c.in-3.is c.read-field-word-in-3.ensures
+returns-in-3 c = single_begins c.args.kind c.args.bytes.now c.read_field_word-in-3.result c.in-3.is c.read_field_word-in-3.ensures
 
 pub returns-in-4 : goal.returns-in-4
-returns-in-4 c = single_near c.args.kind c.args.bytes.now c.read-near.result c.in-4.is c.read-near.ensures
+returns-in-4 c = single_near c.args.kind c.args.bytes.now c.read_near.result c.in-4.is c.read_near.ensures
 
-pub returns-in-default : goal.returns-in-default
-returns-in-default c = single_none c.args.kind c.args.bytes.now (λ e. omega arith) (λ e. omega arith) (λ e. omega arith) (λ e. omega arith)
+pub returns-in_default : goal.returns-in_default
+returns-in_default c = single_none c.args.kind c.args.bytes.now (λ e. omega arith) (λ e. omega arith) (λ e. omega arith) (λ e. omega arith)
