@@ -11,7 +11,7 @@ loop-i-preserved c =
     let i = c.loop-i.i in
     let h : i < length xs = omega arith in
     let k : i < length c.loop-i.key = omega arith in
-    take_more_set c.loop-i.key i _ k ∙ (λ j. c.loop-i.invariant j ++ c.made-small.ensures j ∷ [])
+    take_more_set c.loop-i.key i _ k ∙ (λ j. c.loop-i.invariant j ++ c.made_small.ensures j ∷ [])
     ∙ sym (ap (each small) (take_more xs i 0 h) ∙ each_append small (take i xs) (get_or xs i 0 ∷ []))
 
 pub returns : goal.returns

@@ -6,11 +6,11 @@ use Rattle.places.specs.Tokens.{token_text}
 use Rattle.places.proofs.Made.{key_short}
 use Rattle.places.proofs.reading.token_row.Goals as goal
 
-pub copy-small-requires : goal.copy-small-requires
-copy-small-requires c =
-    let e = ap length c.token-word-word.ensures in
+pub copy_small-requires : goal.copy_small-requires
+copy_small-requires c =
+    let e = ap length c.token_word-word.ensures in
     let s = key_short (token_text c.args.title.now c.args.body.now c.args.token) (c.args.token / 65536) in
-    omega (arith, length_each small c.token-word-word.result.now)
+    omega (arith, length_each small c.token_word-word.result.now)
 
 pub returns : goal.returns
-returns c = row_ext _ _ (c.copy-small.ensures ∙ c.token-word-word.ensures) refl c.token-place.ensures
+returns c = row_ext _ _ (c.copy_small.ensures ∙ c.token_word-word.ensures) refl c.token_place.ensures

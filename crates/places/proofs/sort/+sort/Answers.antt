@@ -11,8 +11,8 @@ sort-requires t c = (
   omega arith,
   (
     omega arith,
-    λ doc. left_different doc c.args.title.now c.args.body.now c.args.tokens.now c.split-at-mut-left.result.0.now c.split-at-mut-left.result.1.now
-        c.split-at-mut-left.ensures.value (c.requires.different doc),
+    λ doc. left_different doc c.args.title.now c.args.body.now c.args.tokens.now c.split_at_mut-left.result.0.now c.split_at_mut-left.result.1.now
+        c.split_at_mut-left.ensures.value (c.requires.different doc),
   ),
 )
 
@@ -21,16 +21,16 @@ sort-requires-2 t c = (
   omega arith,
   (
     omega (arith, c.sort.auto.scratch),
-    λ doc. right_different doc c.args.title.now c.args.body.now c.args.tokens.now c.split-at-mut-left.result.0.now c.split-at-mut-left.result.1.now
-        c.split-at-mut-left.ensures.value (c.requires.different doc),
+    λ doc. right_different doc c.args.title.now c.args.body.now c.args.tokens.now c.split_at_mut-left.result.0.now c.split_at_mut-left.result.1.now
+        c.split_at_mut-left.ensures.value (c.requires.different doc),
   ),
 )
 
 pub merge-requires : goal.merge-requires
 merge-requires t c =
-    let left = c.split-at-mut-left.result.0.now in
-    let right = c.split-at-mut-left.result.1.now in
-    let cut = c.split-at-mut-left.ensures.value in
+    let left = c.split_at_mut-left.result.0.now in
+    let right = c.split_at_mut-left.result.1.now in
+    let cut = c.split_at_mut-left.ensures.value in
     record {
       room = omega (arith, c.sort.auto.tokens, c.sort.auto.scratch, c.sort-2.auto.tokens, c.sort-2.auto.scratch);
       left = λ doc. sorted_rising doc c.args.title.now c.args.body.now left c.sort.new.tokens
@@ -44,6 +44,6 @@ returns t c doc =
     let l = c.sort.new.tokens in
     let r = c.sort-2.new.tokens in
     let n : length c.args.tokens.now - 0 ≡ length l + length r = omega (arith, c.sort.auto.tokens, c.sort-2.auto.tokens) in
-    ap (λ ts. rows_of_tokens doc c.args.title.now c.args.body.now ts) (c.copy-from-slice.ensures.after ∙ ap (λ k. take k c.merge.new.out) n)
-    ∙ halves_merged doc c.args.title.now c.args.body.now c.args.tokens.now c.split-at-mut-left.result.0.now c.split-at-mut-left.result.1.now
-    c.split-at-mut-left.ensures.value (c.requires.different doc) l r (take (length l + length r) c.merge.new.out) (c.sort.ensures doc) (c.sort-2.ensures doc) (c.merge.ensures doc)
+    ap (λ ts. rows_of_tokens doc c.args.title.now c.args.body.now ts) (c.copy_from_slice.ensures.after ∙ ap (λ k. take k c.merge.new.out) n)
+    ∙ halves_merged doc c.args.title.now c.args.body.now c.args.tokens.now c.split_at_mut-left.result.0.now c.split_at_mut-left.result.1.now
+    c.split_at_mut-left.ensures.value (c.requires.different doc) l r (take (length l + length r) c.merge.new.out) (c.sort.ensures doc) (c.sort-2.ensures doc) (c.merge.ensures doc)

@@ -11,9 +11,9 @@ returns-then-j-right c = chosen_no_right c.args.title.now c.args.body.now c.args
 pub returns-in-Greater : goal.returns-in-Greater
 returns-in-Greater c =
     chosen_right c.args.title.now c.args.body.now c.args.left.now c.args.i c.args.right.now c.args.j (omega arith) (omega arith)
-    c.compare-tokens.result c.compare-tokens.ensures c.in-Greater.is
+    c.compare_tokens.result c.compare_tokens.ensures c.in-Greater.is
 
-pub returns-in-default : goal.returns-in-default
-returns-in-default c =
+pub returns-in_default : goal.returns-in_default
+returns-in_default c =
     chosen_left c.args.title.now c.args.body.now c.args.left.now c.args.i c.args.right.now c.args.j (omega arith) (omega arith)
-    c.compare-tokens.result c.compare-tokens.ensures c.in-default.not-Greater
+    c.compare_tokens.result c.compare_tokens.ensures c.in_default.not-Greater

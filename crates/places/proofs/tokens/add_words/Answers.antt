@@ -13,4 +13,4 @@ loop-word-preserved c =
 pub returns : goal.returns
 returns c =
     adding_all c.args.text.now c.args.base c.args.from c.args.tokens.now c.loop-word.n c.loop-word.at c.loop-word.tokens c.loop-word.invariant
-    c.in-default.ensures
+    c.in_default.ensures
