@@ -1,6 +1,6 @@
 -- Laws of the parts of a step, for the proofs of the functions that make it. Assumes nothing.
 use Rattle.std.proofs.Common.{◌≡◌, ℕ, zero, suc, ◌+◌, ◌-◌, ◌<◌, ◌≤◌, Bool, true, false, ◌&&◌, eqb, leb, ◌⊎◌, List, [], ◌∷◌, length, drop, Some, None, sym, refl, ap, ◌∙◌, subst, inl, inr, arith, eq-eqb, ne_eqb, le-leb}
-use mathlib.Core.Bool.{and_false}
+use mathlib.Core.Bool.{and-false}
 use borrow.Author.Tests.{lt-leb}
 use Rattle.pages.proofs.Device.{length_zeros}
 use Rattle.reports.specs.Run.{Event, Step}
@@ -76,8 +76,8 @@ unfolding step_fits
 fits_not m k bs out (inl h) =
     let e : eqb (length m) (length own.start) ≡ false = ne_eqb _ _ (λ q. h (q ∙ own_length)) in
     simp e
-fits_not m k bs out (inr (inl h)) = simp (lt-leb k 3 h.1, and_false)
-fits_not m k bs out (inr (inr h)) = simp (lt-leb 131072 (length out) h.2, and_false)
+fits_not m k bs out (inr (inl h)) = simp (lt-leb k 3 h.1, and-false)
+fits_not m k bs out (inr (inr h)) = simp (lt-leb 131072 (length out) h.2, and-false)
 
 -- a step at a memory of the engine's own length
 pub step_at : (m : List ℕ) (ev : Event) → length m ≡ cells → own.step m ev ≡ moves store move most_moves (after_event (load m) ev)

@@ -37,18 +37,18 @@ unfolding Handed
 returns-in-Remove c =
     let x = c.in-Some.ensures in
     let n = c.in-Remove.field-0 in
-    c.look-for.ensures ∙ sym (begins c.args.registers x.0 _ c.in-Some.request (Remove n) (remove n) x.2 x.3 c.in-Remove.is (λ h. h))
+    c.look_for.ensures ∙ sym (begins c.args.registers x.0 _ c.in-Some.request (Remove n) (remove n) x.2 x.3 c.in-Remove.is (λ h. h))
 
 pub returns-in-Fetch : goal.returns-in-Fetch
 unfolding Handed
 returns-in-Fetch c =
     let x = c.in-Some.ensures in
     let n = c.in-Fetch.field-0 in
-    c.look-for-in-Fetch.ensures ∙ sym (begins c.args.registers x.0 _ c.in-Some.request (Fetch n) (fetch n) x.2 x.3 c.in-Fetch.is (λ h. h))
+    c.look_for-in-Fetch.ensures ∙ sym (begins c.args.registers x.0 _ c.in-Some.request (Fetch n) (fetch n) x.2 x.3 c.in-Fetch.is (λ h. h))
 
-pub returns-in-default-request : goal.returns-in-default-request
-returns-in-default-request c =
+pub returns-in_default-request : goal.returns-in_default-request
+returns-in_default-request c =
     let x = c.in-Some.ensures in
-    let w = c.in-default-request in
-    c.refusing-in-default-request.ensures ∙ sym (others c.args.registers x.0 c.in-Some.request x.3 w.not-Note w.not-Remove w.not-Fetch)
+    let w = c.in_default-request in
+    c.refusing-in_default-request.ensures ∙ sym (others c.args.registers x.0 c.in-Some.request x.3 w.not-Note w.not-Remove w.not-Fetch)
     ∙ sym (ap (begun_from c.args.registers) x.2)

@@ -5,14 +5,14 @@ use Rattle.reports.proofs.machine.run.Goals as goal
 pub loop-init : goal.loop-init
 loop-init c = record { row_is = refl; come_to = λ rest. refl }
 
-pub one-move-requires : goal.one-move-requires
-one-move-requires c = omega (arith, ap length c.loop.invariant.row_is)
+pub one_move-requires : goal.one_move-requires
+one_move-requires c = omega (arith, ap length c.loop.invariant.row_is)
 
 pub returns-in-Some : goal.returns-in-Some
 returns-in-Some c = turn_acts _ _ _ _ _ _ _ _ c.loop.invariant c.loop-test.true c.in-Some.ensures
 
 pub loop-preserved : goal.loop-preserved
-loop-preserved c = turn_goes _ _ _ _ _ _ _ c.loop.invariant c.loop-test.true c.in-default.ensures
+loop-preserved c = turn_goes _ _ _ _ _ _ _ c.loop.invariant c.loop-test.true c.in_default.ensures
 
 pub returns : goal.returns
 returns c = turns_out _ _ _ _ _ c.loop.invariant c.loop-test.false

@@ -26,7 +26,7 @@ returns c =
     let o = c.args.out.now in
     let bs = c.args.bytes.now in
     let ev = event_of c.args.kind bs in
-    let is = c.take-in-registers.ensures ∙ ap (told c.load.result) c.heard.ensures ∙ ap (λ r. told r ev) c.load.ensures in
+    let is = c.take_in-registers.ensures ∙ ap (told c.load.result) c.heard.ensures ∙ ap (λ r. told r ev) c.load.ensures in
     record {
       says = subst (λ (b : Bool). StepSays m c.args.kind bs o b c.run-act.result c.store.new.memory c.run-act.new.out)
           (sym (fits_so m c.args.kind bs o c.if-memory-ne-CELLS.false c.if-kind-gt3.false c.if-out-lt-ROW.false))

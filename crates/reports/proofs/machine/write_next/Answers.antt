@@ -11,10 +11,10 @@ unfolding ActTold
 returns c =
     let l = c.args.ledger.now in
     let o = c.args.out.now in
-    let h = head_page c.next-head-head.result in
+    let h = head_page c.next_head-head.result in
     let fits : eqb (length (take 512 o)) 512 ≡ true = simp length-take (eq-eqb _ _ (omega arith)) in
-    let page : c.write-head.new.page ≡ h = c.write-head.ensures.page ∙ ap (λ b. pick b h (take 512 o)) (c.write-head.ensures.fits ∙ fits) in
-    let next : h ≡ head_page (next_head l) = ap head_page c.next-head-head.ensures in
+    let page : c.write_head.new.page ≡ h = c.write_head.ensures.page ∙ ap (λ b. pick b h (take 512 o)) (c.write_head.ensures.fits ∙ fits) in
+    let next : h ≡ head_page (next_head l) = ap head_page c.next_head-head.ensures in
     record {
       ledger = search rules;
       told = (search rules, ap (λ p. p ++ drop 512 o) (page ∙ next) ∙ ap (λ n. head_page (next_head l) ++ drop n o) (sym (length_head_page (next_head l))));

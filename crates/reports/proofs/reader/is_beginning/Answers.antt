@@ -6,4 +6,4 @@ pub returns-then-bytes-eq0 : goal.returns-then-bytes-eq0
 returns-then-bytes-eq0 c = sym (beginning_empty c.args.bytes.now c.if-bytes-eq0.true)
 
 pub returns : goal.returns
-returns c = c.is-word.ensures ∙ sym (beginning_word c.args.bytes.now c.if-bytes-eq0.false)
+returns c = c.is_word.ensures ∙ sym (beginning_word c.args.bytes.now c.if-bytes-eq0.false)

@@ -6,18 +6,18 @@ use Rattle.questions.proofs.Reading.{then_none, passed, failed}
 use Rattle.reports.specs.Reading.{read_beginning}
 use Rattle.reports.proofs.reader.read_beginning.Goals as goal
 
-pub returns-in-err-start : goal.returns-in-err-start
+pub returns-in_err-start : goal.returns-in_err-start
 unfolding read_beginning
-returns-in-err-start c = rw c.from-residual.ensures (then_none _ c.in-err-start.ensures)
+returns-in_err-start c = rw c.from_residual.ensures (then_none _ c.in_err-start.ensures)
 
-pub returns-then-is-beginning : goal.returns-then-is-beginning
+pub returns-then-is_beginning : goal.returns-then-is_beginning
 unfolding read_beginning
-returns-then-is-beginning c =
-    passed (read_bytes c.args.bytes.now) (λ (p : List ℕ). or (none_of p) (a_word p)) c.in-ok-start.start.now c.in-ok-start.rest.now c.in-ok-start.ensures
-    (sym c.if-is-beginning.ensures)
+returns-then-is_beginning c =
+    passed (read_bytes c.args.bytes.now) (λ (p : List ℕ). or (none_of p) (a_word p)) c.in_ok-start.start.now c.in_ok-start.rest.now c.in_ok-start.ensures
+    (sym c.if-is_beginning.ensures)
 
-pub returns-else-is-beginning : goal.returns-else-is-beginning
+pub returns-else-is_beginning : goal.returns-else-is_beginning
 unfolding read_beginning
-returns-else-is-beginning c =
-    failed (read_bytes c.args.bytes.now) (λ (p : List ℕ). or (none_of p) (a_word p)) c.in-ok-start.start.now c.in-ok-start.rest.now c.in-ok-start.ensures
-    (sym c.if-is-beginning.ensures)
+returns-else-is_beginning c =
+    failed (read_bytes c.args.bytes.now) (λ (p : List ℕ). or (none_of p) (a_word p)) c.in_ok-start.start.now c.in_ok-start.rest.now c.in_ok-start.ensures
+    (sym c.if-is_beginning.ensures)

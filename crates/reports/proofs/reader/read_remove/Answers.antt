@@ -6,12 +6,12 @@ use Rattle.reports.specs.Request.{Handed}
 use Rattle.reports.proofs.Requests.{last_none, last_some}
 use Rattle.reports.proofs.reader.read_remove.Goals as goal
 
-pub returns-in-err-name : goal.returns-in-err-name
+pub returns-in_err-name : goal.returns-in_err-name
 unfolding read_kind
-returns-in-err-name c = rw c.from-residual.ensures (last_none (read_number c.args.bytes.now) remove c.in-err-name.ensures)
+returns-in_err-name c = rw c.from_residual.ensures (last_none (read_number c.args.bytes.now) remove c.in_err-name.ensures)
 
 pub returns : goal.returns
 unfolding read_kind Handed
 returns c =
-    let name = c.in-ok-name.name in
-    (remove name, last_some (read_number c.args.bytes.now) remove name c.in-ok-name.ensures, refl)
+    let name = c.in_ok-name.name in
+    (remove name, last_some (read_number c.args.bytes.now) remove name c.in_ok-name.ensures, refl)

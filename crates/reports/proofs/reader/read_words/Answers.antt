@@ -6,34 +6,34 @@ use Rattle.reports.specs.Request.{Handed}
 use Rattle.reports.proofs.Requests.{all_none, all_on, all_more, all_empty}
 use Rattle.reports.proofs.reader.read_words.Goals as goal
 
-pub returns-in-err-start : goal.returns-in-err-start
+pub returns-in_err-start : goal.returns-in_err-start
 unfolding read_kind
-returns-in-err-start c = rw c.from-residual.ensures (all_none (read_beginning c.args.bytes.now) _ c.in-err-start.ensures)
+returns-in_err-start c = rw c.from_residual.ensures (all_none (read_beginning c.args.bytes.now) _ c.in_err-start.ensures)
 
-pub returns-in-err-most : goal.returns-in-err-most
+pub returns-in_err-most : goal.returns-in_err-most
 unfolding read_kind
-returns-in-err-most c =
-    let second = c.in-ok-start.second.now in
-    rw c.from-residual-in-err-most.ensures
-    (all_on (read_beginning c.args.bytes.now) _ c.in-ok-start.start.now second c.in-ok-start.ensures
-    ∙ all_none (read_within 1 1000 second) _ c.in-err-most.ensures)
+returns-in_err-most c =
+    let second = c.in_ok-start.second.now in
+    rw c.from_residual-in_err-most.ensures
+    (all_on (read_beginning c.args.bytes.now) _ c.in_ok-start.start.now second c.in_ok-start.ensures
+    ∙ all_none (read_within 1 1000 second) _ c.in_err-most.ensures)
 
 pub returns-then-rest-gt0 : goal.returns-then-rest-gt0
 unfolding read_kind
 returns-then-rest-gt0 c =
-    let second = c.in-ok-start.second.now in
-    let rest = c.in-ok-most.rest.now in
-    all_on (read_beginning c.args.bytes.now) _ c.in-ok-start.start.now second c.in-ok-start.ensures
-    ∙ all_on (read_within 1 1000 second) _ c.in-ok-most.most rest c.in-ok-most.ensures ∙ all_more _ rest c.if-rest-gt0.true
+    let second = c.in_ok-start.second.now in
+    let rest = c.in_ok-most.rest.now in
+    all_on (read_beginning c.args.bytes.now) _ c.in_ok-start.start.now second c.in_ok-start.ensures
+    ∙ all_on (read_within 1 1000 second) _ c.in_ok-most.most rest c.in_ok-most.ensures ∙ all_more _ rest c.if-rest-gt0.true
 
 pub returns : goal.returns
 unfolding read_kind Handed
 returns c =
-    let second = c.in-ok-start.second.now in
-    let rest = c.in-ok-most.rest.now in
-    let whole = list_words c.in-ok-start.start.now c.in-ok-most.most in (
+    let second = c.in_ok-start.second.now in
+    let rest = c.in_ok-most.rest.now in
+    let whole = list_words c.in_ok-start.start.now c.in_ok-most.most in (
       whole,
-      all_on (read_beginning c.args.bytes.now) _ c.in-ok-start.start.now second c.in-ok-start.ensures
-          ∙ all_on (read_within 1 1000 second) _ c.in-ok-most.most rest c.in-ok-most.ensures ∙ all_empty whole rest (omega arith),
+      all_on (read_beginning c.args.bytes.now) _ c.in_ok-start.start.now second c.in_ok-start.ensures
+          ∙ all_on (read_within 1 1000 second) _ c.in_ok-most.most rest c.in_ok-most.ensures ∙ all_empty whole rest (omega arith),
       refl,
     )

@@ -12,5 +12,5 @@ returns c =
     let l : at ≤ length m = omega arith in
     let front : List ℕ = g.pages ∷ g.end ∷ [] in
     let two = written_then m at (at + 1) (g.pages ∷ []) (g.end ∷ []) l (omega arith) c.put.ensures c.put-2.ensures in
-    let three = written_then m at (at + 2) front (standing_numbers g.stands) l (omega arith) two c.put-standing.ensures in
-    written_then m at (at + 24) (front ++ standing_numbers g.stands) (root_numbers g.coming) l (omega arith) three c.put-root.ensures
+    let three = written_then m at (at + 2) front (standing_numbers g.stands) l (omega arith) two c.put_standing.ensures in
+    written_then m at (at + 24) (front ++ standing_numbers g.stands) (root_numbers g.coming) l (omega arith) three c.put_root.ensures

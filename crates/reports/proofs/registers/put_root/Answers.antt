@@ -14,7 +14,7 @@ returns c =
     let two : List ℕ = segment_numbers r.second in
     let three : List ℕ = segment_numbers r.third in
     let a = written_then m at (at + 1) (r.count ∷ []) (r.weight ∷ []) l (omega arith) c.put.ensures c.put-2.ensures in
-    let b = written_then m at (at + 2) front one l (omega arith) a c.put-segment.ensures in
-    let d = written_then m at (at + 6) (front ++ one) two l (omega arith) b c.put-segment-2.ensures in
-    let e = written_then m at (at + 10) (front ++ one ++ two) three l (omega arith) d c.put-segment-3.ensures in
-    written_then m at (at + 14) (front ++ one ++ two ++ three) (segment_numbers r.fourth) l (omega arith) e c.put-segment-4.ensures
+    let b = written_then m at (at + 2) front one l (omega arith) a c.put_segment.ensures in
+    let d = written_then m at (at + 6) (front ++ one) two l (omega arith) b c.put_segment-2.ensures in
+    let e = written_then m at (at + 10) (front ++ one ++ two) three l (omega arith) d c.put_segment-3.ensures in
+    written_then m at (at + 14) (front ++ one ++ two ++ three) (segment_numbers r.fourth) l (omega arith) e c.put_segment-4.ensures

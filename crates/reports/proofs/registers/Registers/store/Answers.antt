@@ -11,4 +11,4 @@ returns c =
     let l : 0 ≤ length m = omega arith in
     let one = c.put.ensures ∙ ap (λ n. written m 0 (n ∷ [])) c.number.ensures in
     let two = written_then m 0 1 (phase_number r.phase ∷ []) (r.reply ∷ []) l (omega arith) one c.put-2.ensures in
-    written_then m 0 2 (phase_number r.phase ∷ r.reply ∷ []) (ledger_numbers r.ledger) l (omega arith) two c.put-ledger.ensures
+    written_then m 0 2 (phase_number r.phase ∷ r.reply ∷ []) (ledger_numbers r.ledger) l (omega arith) two c.put_ledger.ensures
