@@ -15,4 +15,4 @@ places n =
     rw (e7, e6, e5, e4, e3, e2)
 
 pub returns : goal.returns
-returns c = c.to-be-bytes.ensures ∙ places c.args.n
+returns c = c.to_be_bytes.ensures ∙ places c.args.n

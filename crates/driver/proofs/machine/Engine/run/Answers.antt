@@ -11,7 +11,7 @@ returns-in-Ended g c w h same =
     let told = c.tell-told.ensures.says in
     ended stands _ c.args.acts c.loop.counter _ c.act.new.self.device _ (vec_items c.act.new.self.memory) _ c.loop.ran c.act.new.ran _ c.act.new.self.page
     (c.act.ensures.same.1 ∙ told.0) (omega arith) _ c.in-Ended.is refl refl
-    (λ v meets. c.in-ok-next.ensures.made _ _ told.1 v (subst (λ d. stands d v.device) (sym c.tell-told.ensures.device) meets))
+    (λ v meets. c.in_ok-next.ensures.made _ _ told.1 v (subst (λ d. stands d v.device) (sym c.tell-told.ensures.device) meets))
     (c.loop.invariant.2 w h same)
 
 pub loop-preserved : goal.loop-preserved
@@ -23,7 +23,7 @@ loop-preserved g c = (
       let told = c.tell-told.ensures.says in
       one_more stands _ c.args.acts c.loop.counter _ c.act.new.self.device _ (vec_items c.act.new.self.memory) _ c.loop.ran c.act.new.ran _ c.act.new.self.page
       (c.act.ensures.same.1 ∙ told.0) (omega arith) c.in-Tell.next c.args.bytes.now c.in-Tell.is
-      (λ v meets. c.in-ok-next.ensures.made _ _ told.1 v (subst (λ d. stands d v.device) (sym c.tell-told.ensures.device) meets))
+      (λ v meets. c.in_ok-next.ensures.made _ _ told.1 v (subst (λ d. stands d v.device) (sym c.tell-told.ensures.device) meets))
       (c.loop.invariant.2 w h same),
 )
 

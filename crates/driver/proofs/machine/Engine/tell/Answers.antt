@@ -10,7 +10,7 @@ returns-in-Power g c =
     record {
       device = refl;
       says = told_so self.memory.items self.lent.items _ _ _ _ bytes 0 self.memory.len self.lent.len _ _ (ap (λ e. meant e bytes self.page) c.in-Power.is)
-          c.as-mut-slice-memory.ensures.value c.as-mut-slice-lent.ensures.value self.sized.0 self.memory.ok.0 self.sized.1 self.lent.ok.0
+          c.as_mut_slice-memory.ensures.value c.as_mut_slice-lent.ensures.value self.sized.0 self.memory.ok.0 self.sized.1 self.lent.ok.0
           c.step.auto.memory c.step.auto.out (omega arith) c.step.ensures.says;
     }
 
@@ -21,7 +21,7 @@ returns-in-Command g c =
     record {
       device = refl;
       says = told_so self.memory.items self.lent.items _ _ _ _ bytes 1 self.memory.len self.lent.len _ _ (ap (λ e. meant e bytes self.page) c.in-Command.is)
-          c.as-mut-slice-memory.ensures.value c.as-mut-slice-lent.ensures.value self.sized.0 self.memory.ok.0 self.sized.1 self.lent.ok.0
+          c.as_mut_slice-memory.ensures.value c.as_mut_slice-lent.ensures.value self.sized.0 self.memory.ok.0 self.sized.1 self.lent.ok.0
           c.step-in-Command.auto.memory c.step-in-Command.auto.out (omega arith) c.step-in-Command.ensures.says;
     }
 
@@ -32,7 +32,7 @@ returns-in-Page g c =
     record {
       device = refl;
       says = told_so self.memory.items self.lent.items _ _ _ _ self.page 2 self.memory.len self.lent.len _ _ (ap (λ e. meant e bytes self.page) c.in-Page.is)
-          c.as-mut-slice-memory.ensures.value c.as-mut-slice-lent.ensures.value self.sized.0 self.memory.ok.0 self.sized.1 self.lent.ok.0
+          c.as_mut_slice-memory.ensures.value c.as_mut_slice-lent.ensures.value self.sized.0 self.memory.ok.0 self.sized.1 self.lent.ok.0
           c.step-in-Page.auto.memory c.step-in-Page.auto.out (omega arith) c.step-in-Page.ensures.says;
     }
 
@@ -43,6 +43,6 @@ returns-in-Next g c =
     record {
       device = refl;
       says = told_so self.memory.items self.lent.items _ _ _ _ [] 3 self.memory.len self.lent.len _ _ (ap (λ e. meant e bytes self.page) c.in-Next.is)
-          c.as-mut-slice-memory.ensures.value c.as-mut-slice-lent.ensures.value self.sized.0 self.memory.ok.0 self.sized.1 self.lent.ok.0
+          c.as_mut_slice-memory.ensures.value c.as_mut_slice-lent.ensures.value self.sized.0 self.memory.ok.0 self.sized.1 self.lent.ok.0
           c.step-in-Next.auto.memory c.step-in-Next.auto.out (omega arith) c.step-in-Next.ensures.says;
     }
