@@ -7,9 +7,9 @@ use Rattle.console.proofs.answers.show_rows.Goals as goal
 pub loop-row-preserved : goal.loop-row-preserved
 loop-row-preserved c =
     let line = line_of c.args.kind in
-    let first = chosen _ _ _ _ c.extend-from-slice.ensures.items (ap is_ok c.in-ok-extend-from-slice.was) in
-    let second = chosen _ _ _ _ c.push.ensures.items (ap is_ok c.in-ok-push.was) in
-    let is = c.as-slice-in-loop-row.ensures.value ∙ c.in-ok-line.ensures ∙ ap line c.as-slice.ensures.value ∙ ap (λ v. line (vec_items v)) c.row-item.is in
+    let first = chosen _ _ _ _ c.extend_from_slice.ensures.items (ap is_ok c.in_ok-extend_from_slice.was) in
+    let second = chosen _ _ _ _ c.push.ensures.items (ap is_ok c.in_ok-push.was) in
+    let is = c.as_slice-in-loop-row.ensures.value ∙ c.in_ok-line.ensures ∙ ap line c.as_slice.ensures.value ∙ ap (λ v. line (vec_items v)) c.row-item.is in
     line_step line vec_items c.args.rows.now c.loop-row.row-index c.row-item.result _ _ _ _ (omega arith) c.loop-row.invariant first second is
 
 pub returns : goal.returns

@@ -5,10 +5,10 @@ use Rattle.console.proofs.Texts.{every_more}
 use Rattle.console.proofs.hex.first_bad.Goals as goal
 
 pub loop-i-preserved : goal.loop-i-preserved
-loop-i-preserved c = every_more is_digit c.args.text.now c.loop-i.i 0 (omega arith) c.loop-i.invariant (lt-ltb _ 16 (omega (arith, c.worth-of.ensures)))
+loop-i-preserved c = every_more is_digit c.args.text.now c.loop-i.i 0 (omega arith) c.loop-i.invariant (lt-ltb _ 16 (omega (arith, c.worth_of.ensures)))
 
-pub returns-then-worth-of-ge16 : goal.returns-then-worth-of-ge16
-returns-then-worth-of-ge16 c = (omega arith, le-ltb _ 16 (omega (arith, c.worth-of.ensures)), c.loop-i.invariant)
+pub returns-then-worth_of-ge16 : goal.returns-then-worth_of-ge16
+returns-then-worth_of-ge16 c = (omega arith, le-ltb _ 16 (omega (arith, c.worth_of.ensures)), c.loop-i.invariant)
 
 pub returns : goal.returns
 returns c =

@@ -10,5 +10,5 @@ returns c =
     let old = vec_items c.args.bytes.now in
     let word = c.args.word.now in
     let letters = with_length (vec_items word.letters) in
-    let first = chosen _ _ _ _ c.extend-from-slice.ensures.items (ap is_ok c.in-ok-extend-from-slice.was) in
-    c.in-ok-add-with-length.ensures ∙ ap (λ l. vec_items c.extend-from-slice.new.self ++ with_length l) c.as-slice.ensures.value ∙ ap (λ l. l ++ letters) first ∙ append_assoc old (1 ∷ word.field ∷ []) letters
+    let first = chosen _ _ _ _ c.extend_from_slice.ensures.items (ap is_ok c.in_ok-extend_from_slice.was) in
+    c.in_ok-add_with_length.ensures ∙ ap (λ l. vec_items c.extend_from_slice.new.self ++ with_length l) c.as_slice.ensures.value ∙ ap (λ l. l ++ letters) first ∙ append_assoc old (1 ∷ word.field ∷ []) letters

@@ -7,4 +7,4 @@ use Rattle.console.proofs.spelling.spell_count.Goals as goal
 pub returns : goal.returns
 unfolding spelled
 returns c some =
-    c.in-ok-add-words.ensures some ∙ ap (λ l. l ++ query_spelled (all_of c.args.words.now)) c.in-ok-bytes.ensures.items
+    c.in_ok-add_words.ensures some ∙ ap (λ l. l ++ query_spelled (all_of c.args.words.now)) c.in_ok-bytes.ensures.items

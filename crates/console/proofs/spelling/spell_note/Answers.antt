@@ -3,4 +3,4 @@ use Rattle.console.proofs.spelling.spell_note.Goals as goal
 
 pub returns : goal.returns
 unfolding spelled
-returns c = c.in-ok-bytes.ensures.items
+returns c = c.in_ok-bytes.ensures.items

@@ -8,5 +8,5 @@ unfolding spelled
 returns c =
     let title = with_length c.args.title.now in
     let body = with_length c.args.body.now in
-    c.in-ok-add-with-length-2.ensures
-    ∙ ap (λ l. l ++ body) (c.in-ok-add-with-length.ensures ∙ ap (λ l. l ++ title) c.in-ok-bytes.ensures)
+    c.in_ok-add_with_length-2.ensures
+    ∙ ap (λ l. l ++ body) (c.in_ok-add_with_length.ensures ∙ ap (λ l. l ++ title) c.in_ok-bytes.ensures)

@@ -7,9 +7,9 @@ use Rattle.console.proofs.typed.letters.Goals as goal
 
 pub loop-b-preserved : goal.loop-b-preserved
 loop-b-preserved c =
-    let pushed = chosen _ _ _ _ c.push.ensures.items (ap is_ok c.in-ok-push.was) in
+    let pushed = chosen _ _ _ _ c.push.ensures.items (ap is_ok c.in_ok-push.was) in
     let more = each_more small c.args.bytes.now c.loop-b.b-index 0 (omega arith) in
-    pushed ∙ rw (c.loop-b.invariant, c.made-small.ensures) (sym more)
+    pushed ∙ rw (c.loop-b.invariant, c.made_small.ensures) (sym more)
 
 pub returns : goal.returns
 returns c =

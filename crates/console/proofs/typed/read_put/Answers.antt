@@ -5,5 +5,5 @@ use Rattle.console.proofs.typed.read_put.Goals as goal
 
 pub returns : goal.returns
 returns c =
-    put_fits _ _ _ c.in-ok-name.ensures (omega arith) (omega arith)
-    (subst (λ l. all_bytes l ≡ true) c.as-bytes.ensures.value c.hold-bytes.ensures) (subst (λ l. all_bytes l ≡ true) c.as-bytes-2.ensures.value c.hold-bytes-2.ensures)
+    put_fits _ _ _ c.in_ok-name.ensures (omega arith) (omega arith)
+    (subst (λ l. all_bytes l ≡ true) c.as_bytes.ensures.value c.hold_bytes.ensures) (subst (λ l. all_bytes l ≡ true) c.as_bytes-2.ensures.value c.hold_bytes-2.ensures)
