@@ -1,9 +1,8 @@
 -- What is typed makes commands that fit, and how all of some words are spelled. Assumes nothing.
-use Rattle.std.proofs.Common.{◌≡◌, ℕ, zero, suc, ◌+◌, ◌*◌, ◌<◌, ◌≤◌, Bool, true, ◌&&◌, ltb, leb, List, [], ◌∷◌, ◌++◌, length, get_or, drop, sym, refl, ap, ◌∙◌, append_assoc, append-nil, add-one, arith, length-drop, drop_of_length-le, drop-cons, lt-ltb, le-leb}
+use Rattle.std.proofs.Common.{◌≡◌, ℕ, suc, ◌+◌, ◌*◌, ◌<◌, ◌≤◌, true, List, [], ◌∷◌, ◌++◌, length, get_or, drop, refl, ap, ◌∙◌, append_assoc, append-nil, add-one, arith, length-drop, drop_of_length-le, drop-cons, lt-ltb, le-leb}
 use Rattle.pages.specs.Lists.{every}
 use Rattle.pages.specs.Bytes.{all_bytes}
 use Rattle.pages.proofs.Bytes.{and_true}
-use Rattle.questions.specs.Query.{Query}
 use Rattle.questions.specs.Spelling.{query_spelled, query_fits, size}
 use Rattle.reports.specs.Command.{put, remove, note, ask, how_many, fetch, fits}
 use Rattle.console.specs.declared.typed.Word.{Word}

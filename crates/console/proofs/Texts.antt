@@ -1,5 +1,5 @@
 -- Lists that grow by one: what holds of each, digits, letters and lines. Assumes nothing.
-use Rattle.std.proofs.Common.{◌≡◌, ℕ, zero, suc, ◌+◌, ◌*◌, ◌/◌, ◌%◌, ◌<◌, ◌≤◌, Bool, true, false, ◌&&◌, eqb, List, [], ◌∷◌, ◌++◌, map, length, get_or, take, drop, codes, sym, refl, ap, ◌∙◌, append_assoc, append-nil, add-one, arith, take-suc, true-eqb, false-eqb}
+use Rattle.std.proofs.Common.{◌≡◌, ℕ, zero, suc, ◌+◌, ◌*◌, ◌/◌, ◌%◌, ◌<◌, Bool, true, false, ◌&&◌, eqb, List, [], ◌∷◌, ◌++◌, map, length, get_or, take, codes, sym, refl, ap, ◌∙◌, append_assoc, append-nil, add-one, arith, take-suc, true-eqb, false-eqb}
 use Rattle.pages.specs.Lists.{every, each, flat}
 use Rattle.pages.proofs.Bytes.{and_true}
 use Rattle.pages.proofs.Lists.{every_join}

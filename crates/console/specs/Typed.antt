@@ -1,8 +1,8 @@
 -- What is typed, as commands. Assumes nothing: these are definitions.
-use Rattle.std.specs.Prelude.{◌≡◌, ℕ, ◌<◌, ◌≤◌, Bool, true, ◌&&◌, List, [], ◌∷◌, length, take, Some, None, vec_items, Option, Vec, nat_lt}
+use Rattle.std.specs.Prelude.{◌≡◌, ℕ, ◌≤◌, Bool, true, ◌&&◌, List, [], ◌∷◌, length, take, Some, None, vec_items, Option, Vec, nat_lt}
 use Rattle.std.specs.declared.alloc.Global.{Global}
 use Rattle.pages.specs.Lists.{every, each}
-use Rattle.words.specs.Words.{in_word, small}
+use Rattle.words.specs.Words.{small}
 use Rattle.questions.specs.Query.{Query, word, both}
 use Rattle.questions.specs.Spelling.{a_word}
 use Rattle.reports.specs.Command.{Command, put, remove, note, ask, how_many, fetch, fits, spelled}

@@ -1,19 +1,16 @@
 -- Each act of the engine, as the driver does it. Assumes nothing.
-use Rattle.std.proofs.Common.{◌≡◌, ℕ, zero, suc, ◌+◌, ◌<◌, ◌≤◌, Bool, true, false, ◌&&◌, eqb, ltb, leb, ◌⊎◌, List, [], ◌∷◌, ◌++◌, length, take, drop, sym, refl, ap, ◌∙◌, subst, inl, inr, add-one, arith, take_at, lt-ltb, eqb-true, le-leb}
-use Rattle.pages.specs.Lists.{pick, every}
+use Rattle.std.proofs.Common.{◌≡◌, ℕ, ◌+◌, ◌<◌, ◌≤◌, Bool, true, false, ◌&&◌, eqb, ◌⊎◌, List, [], ◌∷◌, ◌++◌, length, take, drop, sym, refl, ap, ◌∙◌, inl, inr, add-one, arith, take_at, lt-ltb, eqb-true, le-leb}
 use Rattle.pages.specs.Bytes.{all_bytes}
 use Rattle.pages.specs.Device.{Page, Device, read_page, flushed}
-use Rattle.reports.specs.Run.{World, Event, page, next, Act, read, write, flush, shows, done, refused, Step, in_memory, on_device, queued, writable, ran, refusal_end, one_act}
-use Rattle.reports.specs.Run as run
+use Rattle.reports.specs.Run.{World, Act, read, write, flush, shows, done, refused, queued, writable, refusal_end, one_act}
 use Rattle.reports.specs.Entry.{event_of, ActTold}
 use Rattle.reports.specs.declared.Told.{Told}
 use Rattle.reports.specs.declared.Told.TheVariants.{Read, Write, Flush, Shows, Done, No}
 use Rattle.driver.specs.declared.machine.End.{End}
 use Rattle.driver.specs.declared.machine.End.TheVariants as end
 use Rattle.driver.specs.declared.machine.Event.TheVariants as event
-use Rattle.driver.specs.declared.machine.Next.{Next}
 use Rattle.driver.specs.declared.machine.Next.TheVariants.{Tell, Ended}
-use Rattle.driver.specs.Acts.{end_number, Faulty, Acted}
+use Rattle.driver.specs.Acts.{Faulty, Acted}
 
 is_refusal : (k : ℕ) → 1 ≤ k → k < 1000 → refusal_end k ≡ k
 is_refusal k low high = rw (le-leb 1 k low, lt-ltb k 1000 high)

@@ -1,5 +1,5 @@
 -- Pages in a row, and writes that wait. Assumes nothing.
-use Rattle.std.proofs.Common.{◌≡◌, ℕ, zero, suc, ◌+◌, ◌<◌, List, [], ◌∷◌, ◌++◌, length, get_or, set, replicate, sym, refl, ap, ◌∙◌, arith, length-set}
+use Rattle.std.proofs.Common.{◌≡◌, ℕ, zero, suc, ◌<◌, List, [], ◌∷◌, ◌++◌, length, get_or, set, replicate, refl, ap, ◌∙◌, arith, length-set}
 use Rattle.pages.specs.Lists.{zeros}
 use Rattle.pages.specs.Device.{Page, Write, page_at, set_page, all_written, blank}
 

@@ -1,5 +1,5 @@
 -- A run of the engine, act by act. Assumes nothing.
-use Rattle.std.proofs.Common.{◌≡◌, ℕ, zero, suc, ◌+◌, ◌<◌, ◌≤◌, Bool, true, false, ◌⊎◌, List, [], ◌∷◌, ◌++◌, length, get_or, take, drop, sym, refl, ap, ◌∙◌, subst, inl, inr, ⊎_elim, arith, take_all, take_at}
+use Rattle.std.proofs.Common.{◌≡◌, ℕ, zero, suc, ◌+◌, ◌<◌, ◌≤◌, Bool, ◌⊎◌, List, [], ◌∷◌, ◌++◌, length, get_or, take, drop, sym, refl, ap, ◌∙◌, subst, inl, inr, ⊎_elim, arith, take_all, take_at}
 use Rattle.pages.specs.Bytes.{eight, from_eight}
 use Rattle.pages.proofs.Bytes.{length_eight, from_eight_eight}
 use Rattle.pages.specs.Lists.{zeros}
@@ -10,13 +10,12 @@ use Rattle.reports.specs.Entry.{event_of, StepSays, step_fits}
 use Rattle.reports.specs.Machine.{own}
 use Rattle.reports.proofs.Stepping.{fits_so}
 use Rattle.reports.specs.declared.Told.{Told}
-use Rattle.driver.specs.declared.machine.End.{End}
 use Rattle.driver.specs.declared.machine.End.TheVariants.{Stopped}
 use Rattle.driver.specs.declared.machine.Event.{Event as Said}
 use Rattle.driver.specs.declared.machine.Next.{Next}
 use Rattle.driver.specs.declared.machine.Next.TheVariants.{Tell, Ended}
 use Rattle.driver.specs.declared.machine.Ran.{Ran}
-use Rattle.driver.specs.Acts.{meant, rows_of, end_number, ToldSo, Faulty, Acted, Same, Went, Powered}
+use Rattle.driver.specs.Acts.{meant, rows_of, ToldSo, Faulty, Acted, Same, Went, Powered}
 
 -- a step of the engine, for the memory and the row that it is lent here
 pub told_so : (mem lent m out m₁ out₁ bs : List ℕ) (k n l : ℕ) (t : Told) (ev : Event) → ev ≡ event_of k bs → m ≡ mem → out ≡ lent → n ≡ 262144 → n ≡ length mem → 131072 ≤ l → l ≡ length lent → length m₁ ≡ length m → length out₁ ≡ length out → k ≤ 3 →

@@ -1,5 +1,5 @@
 -- What the driver does with what the engine asks for. Assumes nothing: these are definitions.
-use Rattle.std.specs.Prelude.{◌≡◌, ℕ, ◌⊎◌, List, [], ◌∷◌, map, vec_items, ◌≢◌}
+use Rattle.std.specs.Prelude.{◌≡◌, ℕ, ◌⊎◌, List, [], map, vec_items, ◌≢◌}
 use Rattle.pages.specs.Device.{Page, Device}
 use Rattle.reports.specs.Run.{World, Act, Step, in_memory, on_device, one_act, ran, woken, ran_as}
 use Rattle.reports.specs.Run as run

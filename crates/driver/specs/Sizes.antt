@@ -1,5 +1,5 @@
 -- Which files can be devices. Assumes nothing: these are definitions.
-use Rattle.std.specs.Prelude.{◌≡◌, ℕ, ◌*◌, ◌≤◌, true, false, Some, None, Ok, Err, Option, Result, ◌≢◌}
+use Rattle.std.specs.Prelude.{◌≡◌, ℕ, ◌*◌, ◌≤◌, Some, None, Ok, Err, Option, Result, ◌≢◌}
 use Rattle.driver.specs.declared.files.BadFile.{BadFile}
 use Rattle.driver.specs.declared.files.BadFile.TheVariants.{Missing, Size, Asked, Other, Io}
 

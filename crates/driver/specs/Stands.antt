@@ -1,5 +1,5 @@
 -- What reading, writing and flushing do with a device, for any that it stands for. Assumes nothing: these are definitions.
-use Rattle.std.specs.Prelude.{◌≡◌, ℕ, ◌<◌, ◌≤◌, List, length, Ok, Err, Result}
+use Rattle.std.specs.Prelude.{◌≡◌, ℕ, ◌<◌, ◌≤◌, length, Ok, Err, Result}
 use Rattle.pages.specs.Device.{Page, Device, read_page, flushed}
 use Rattle.reports.specs.Run.{queued}
 use Rattle.driver.specs.declared.faults.Fault.{Fault}

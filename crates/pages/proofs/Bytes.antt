@@ -1,7 +1,6 @@
 -- Laws of numbers in bytes: what was spelled is read, and what was read was spelled so. Assumes nothing.
-use Rattle.std.proofs.Common.{◌≡◌, ℕ, zero, suc, ◌+◌, ◌*◌, ◌/◌, ◌%◌, ◌^◌, ◌<◌, ◌≤◌, Bool, true, false, ◌&&◌, ltb, List, [], ◌∷◌, ◌++◌, length, get_or, take, drop, sym, refl, ap, ◌∙◌, append_assoc, append-nil, pow-suc, add-one, arith, ltb-true, lt-ltb}
-use Rattle.pages.specs.Lists.{every}
-use Rattle.pages.specs.Bytes.{in_bytes, eight, with_length, all_bytes, from_eight}
+use Rattle.std.proofs.Common.{◌≡◌, ℕ, zero, suc, ◌+◌, ◌*◌, ◌/◌, ◌%◌, ◌^◌, ◌<◌, Bool, true, false, ◌&&◌, ltb, List, [], ◌∷◌, ◌++◌, length, get_or, refl, ap, ◌∙◌, append-nil, pow-suc, add-one, arith, ltb-true, lt-ltb}
+use Rattle.pages.specs.Bytes.{in_bytes, eight, all_bytes, from_eight}
 
 -- both parts of a test that is true
 pub and_true : (a b : Bool) → a && b ≡ true → (a ≡ true) × (b ≡ true)

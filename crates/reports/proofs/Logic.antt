@@ -1,9 +1,9 @@
 -- The logic of runs: a command that ends within so many acts, safe to be stopped before each of them. From one coming-up and one command done well
 -- comes `Right` for every list of what can happen. Assumes nothing.
-use Rattle.std.proofs.Common.{◌≡◌, ℕ, zero, suc, ◌+◌, ◌-◌, ◌*◌, ◌<◌, ◌≤◌, Bool, true, false, not, ◌&&◌, ◌⊎◌, List, [], ◌∷◌, ◌++◌, length, sym, refl, ap, ◌∙◌, subst, inl, inr, append_assoc, append-nil, arith}
+use Rattle.std.proofs.Common.{◌≡◌, ℕ, zero, suc, Bool, true, false, ◌⊎◌, List, [], ◌∷◌, ◌++◌, length, sym, refl, ap, ◌∙◌, subst, inl, inr, append_assoc, append-nil, arith}
 use Rattle.pages.specs.Lists.{pick}
-use Rattle.pages.specs.Device.{Device, Page, Write, read_page, flushed, stopped}
-use Rattle.reports.specs.Run.{Engine, Event, on, said, page, next, Act, read, write, flush, shows, done, refused, Step, World, Ran, in_memory, on_device, queued, writable, ran, refusal_end, one_act, runs, Item, power, power_stops, whole, stops, proper, dark, woken, ran_as, Right}
+use Rattle.pages.specs.Device.{Device, read_page, flushed, stopped}
+use Rattle.reports.specs.Run.{Engine, Event, on, said, page, next, Act, read, write, flush, shows, done, refused, World, Ran, in_memory, on_device, queued, writable, ran, refusal_end, one_act, runs, Item, power, power_stops, whole, stops, proper, Right}
 
 -- what comes of an act: a going on, or an end
 abbrev pub Acts : (World → Event → List (List ℕ) → ℕ → Type 0) → (World → List (List ℕ) → ℕ → ℕ → Type 0) → World → List (List ℕ) → ℕ → List ℕ → Act → Type 0

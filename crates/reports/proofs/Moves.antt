@@ -1,5 +1,5 @@
 -- The logic of moves: a step makes small moves until there is an act. What is shown of moves, with no count of them, holds of acts. Assumes nothing.
-use Rattle.std.proofs.Common.{◌≡◌, ℕ, zero, suc, ◌+◌, true, List, [], ◌∷◌, ◌++◌, sym, refl, ap, ◌∙◌, subst}
+use Rattle.std.proofs.Common.{◌≡◌, ℕ, zero, suc, true, List, [], ◌∷◌, ◌++◌, sym, refl, ap, ◌∙◌, subst}
 use Rattle.pages.specs.Device.{Device, Page, read_page, flushed}
 use Rattle.reports.specs.Run.{Engine, Event, page, next, Act, read, write, flush, shows, done, refused, Step, World, queued, writable, refusal_end}
 use Rattle.reports.specs.Moves.{Moved, goes, acts, after_move, moves}

@@ -1,14 +1,14 @@
 -- What is read of a command is what was spelled, and the other way round.
-use Rattle.std.proofs.Common.{◌≡◌, ℕ, zero, suc, ◌+◌, ◌-◌, ◌<◌, ◌≤◌, Bool, true, false, ◌&&◌, eqb, ltb, leb, List, [], ◌∷◌, ◌++◌, length, sym, refl, ap, ◌∙◌, subst, append_assoc, append-nil, arith, lit<}
+use Rattle.std.proofs.Common.{◌≡◌, ℕ, ◌-◌, ◌<◌, Bool, true, false, ◌&&◌, ltb, leb, List, [], ◌∷◌, ◌++◌, length, sym, refl, ap, ◌∙◌, subst, append_assoc, append-nil, arith, lit<}
 use lib.Dec.{leb-suc-suc}
 use Rattle.std.proofs.lemmas.Bool.{and_parts, and_from, ltb-true, leb-true, lt-ltb, le-leb}
-use Rattle.pages.specs.Lists.{pick, or, none_of, every}
+use Rattle.pages.specs.Lists.{pick, or, none_of}
 use Rattle.pages.specs.Bytes.{eight, with_length, all_bytes}
 use Rattle.pages.proofs.Bytes.{eight_is_bytes}
 use Rattle.questions.specs.Query.{Query}
 use Rattle.questions.specs.Spelling.{query_spelled, query_fits, size, a_word, a_question}
 use Rattle.questions.specs.Reading.{Read, nothing, got, then, only, read_byte, read_number, read_bytes, read_query, Asked}
-use Rattle.questions.proofs.Reading.{then_on, pick_got, got_same, choose, every_append, every_both, Sound, step, sound_only, reads_only, reads_number, sound_number, reads_within, sound_within, reads_bytes, sound_bytes, sound_byte, with_length_bytes, word_bytes, reads_query, sound_query, asked_spelled, Asks, query_bytes}
+use Rattle.questions.proofs.Reading.{then_on, got_same, choose, every_append, every_both, Sound, step, sound_only, reads_only, reads_number, sound_number, reads_within, sound_within, reads_bytes, sound_bytes, sound_byte, with_length_bytes, word_bytes, reads_query, sound_query, asked_spelled, query_bytes}
 use Rattle.reports.specs.Command.{Command, put, remove, note, ask, how_many, fetch, list_words, sweep, spelled, fits}
 use Rattle.reports.specs.Reading.{Reading, no_command, a_command, read_limit, read_text, read_beginning, read_kind, all_of_it, read_command}
 use Rattle.reports.specs.Promise.{Said}

@@ -1,14 +1,13 @@
 -- From the parts that code reads of a command to what it hands on.
-use Rattle.std.proofs.Common.{◌≡◌, ℕ, zero, suc, ◌<◌, Bool, true, false, List, [], ◌∷◌, length, Some, None, Option, sym, refl, ap, ◌∙◌, subst, append-nil, arith}
-use Rattle.std.proofs.lemmas.Bool.{and_parts, ne_eqb}
+use Rattle.std.proofs.Common.{◌≡◌, ℕ, ◌<◌, true, false, List, [], ◌∷◌, length, Some, None, Option, sym, refl, ap, ◌∙◌, append-nil, arith}
+use Rattle.std.proofs.lemmas.Bool.{ne_eqb}
 use Rattle.pages.specs.Lists.{pick, or, none_of}
 use Rattle.pages.specs.Bytes.{all_bytes}
 use Rattle.questions.specs.Spelling.{query_spelled, a_word}
 use Rattle.questions.specs.Reading.{Read, nothing, got, then, read_byte, read_query, Asked}
 use Rattle.questions.proofs.Reading.{Sound, every_append, sound_query}
 use Rattle.reports.specs.Command.{Command}
-use Rattle.reports.specs.Promise.{Said}
-use Rattle.reports.specs.Reading.{Reading, no_command, a_command, last, is_whole, all_of_it, read_kind, read_command}
+use Rattle.reports.specs.Reading.{no_command, a_command, last, is_whole, all_of_it, read_kind, read_command}
 use Rattle.reports.specs.Request.{Hands, Reads}
 use Rattle.reports.specs.declared.reader.Request.{Request}
 use Rattle.reports.proofs.Reading.{read_said, said_read}

@@ -1,16 +1,15 @@
 -- What stands, with power and without it: the head that counts, the roots that it and the registers name, and what these hold. Assumes nothing.
-use Rattle.std.proofs.Common.{◌≡◌, ℕ, zero, suc, ◌+◌, ◌-◌, ◌<◌, ◌≤◌, Bool, true, false, ◌&&◌, ltb, List, [], ◌∷◌, ◌++◌, length, sym, refl, ap, ◌∙◌, subst, arith, lt-ltb}
+use Rattle.std.proofs.Common.{◌≡◌, ℕ, suc, ◌+◌, ◌<◌, true, ltb, List, [], ◌∷◌, ◌++◌, length, sym, refl, ◌∙◌, subst, arith, lt-ltb}
 use Rattle.std.specs.List.{AllByRecursion as All}
 use Rattle.std.proofs.lemmas.Bool.{and_from}
 use Rattle.pages.specs.Lists.{every}
-use Rattle.pages.specs.Device.{Device, Page, Write, page_at, all_written, read_page, flushed, left, stopped, a_page}
-use Rattle.pages.specs.Head.{head_numbers, root_numbers, head_page, fits_eights, empty_head}
-use Rattle.pages.specs.Commit.{Stands, Atomic, past_heads, committing, then_waiting, CommitAtomic}
+use Rattle.pages.specs.Device.{Device, Page, Write, read_page, flushed, stopped, a_page}
+use Rattle.pages.specs.Head.{root_numbers, fits_eights, empty_head}
+use Rattle.pages.specs.Commit.{Stands, past_heads}
 use Rattle.pages.specs.declared.roots.Root.{Root}
 use Rattle.pages.specs.declared.roots.Head.{Head}
-use Rattle.pages.proofs.Commit.{stands_left, stands_written, commit_is_atomic}
+use Rattle.pages.proofs.Commit.{stands_left, stands_written}
 use Rattle.pages.proofs.Device.{length_left, length_written, all_pages_left, all_pages_written, all_page_at, a_page_half}
-use Rattle.pages.proofs.Heads.{head_page_is_page}
 use Rattle.documents.specs.Document.{Doc}
 use Rattle.reports.specs.Plain.{Plain, after_stop}
 use Rattle.reports.specs.Run.{queued, writable}

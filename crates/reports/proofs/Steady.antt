@@ -1,8 +1,8 @@
 -- Laws of the machine: loading and storing, what every move keeps, and that memory neither grows nor overflows. Assumes nothing.
-use Rattle.std.proofs.Common.{◌≡◌, ℕ, zero, suc, ◌+◌, ◌-◌, ◌<◌, ◌≤◌, Bool, true, false, ◌&&◌, eqb, ltb, leb, ◌⊎◌, List, [], ◌∷◌, ◌++◌, length, get_or, drop, Some, None, Option, sym, refl, ap, ◌∙◌, subst, inl, inr, ⊎_elim, arith, length-drop, ltb-true, le-ltb, lt-ltb, eq-eqb, ne_eqb, le-leb}
+use Rattle.std.proofs.Common.{◌≡◌, ℕ, zero, suc, ◌+◌, ◌<◌, Bool, true, false, eqb, ltb, ◌⊎◌, List, [], ◌∷◌, ◌++◌, length, get_or, drop, Some, None, Option, sym, refl, ap, ◌∙◌, subst, inl, inr, ⊎_elim, arith, length-drop, ltb-true, le-ltb, lt-ltb, ne_eqb, le-leb}
 use borrow.Author.Tests.{lt-leb}
 use Rattle.std.proofs.str.Laws.{order}
-use Rattle.pages.specs.Lists.{pick, every, each, zeros}
+use Rattle.pages.specs.Lists.{pick, each}
 use Rattle.pages.specs.Device.{a_page}
 use Rattle.pages.specs.Head.{head_numbers, root_numbers, fits_eights, read_head, chosen}
 use Rattle.pages.specs.declared.roots.Root.{Root}
@@ -16,13 +16,13 @@ use Rattle.pages.proofs.Bytes.{and_true}
 use Rattle.reports.specs.Command.{Command, put, remove, note, ask, how_many, fetch, list_words, sweep}
 use Rattle.reports.specs.Reading.{Reading, no_command, a_command, read_command}
 use Rattle.reports.specs.Run.{Event, on, said, page, next, Act, Step, all_small, Steady}
-use Rattle.reports.specs.Moves.{Moved, goes, acts, moves}
+use Rattle.reports.specs.Moves.{Moved, goes, acts}
 use Rattle.reports.specs.Registers.{phase_of, phase_number, ledger_numbers, register_numbers, register_count, at_phase, refusal_next}
 use Rattle.reports.specs.declared.registers.Phase.{Phase}
 use Rattle.reports.specs.declared.registers.Phase.TheVariants.{Idle, First, Second, Refusing, Flushing, Heading, Settling, Finishing}
 use Rattle.reports.specs.declared.registers.Ledger.{Ledger}
 use Rattle.reports.specs.declared.registers.Registers.{Registers}
-use Rattle.reports.specs.Machine.{St, load, store, told, kept_pages, waking, up, first_found, found_first, page_told, missing, begun, begun_from, next_sequence, next_head, committed, move, move_at, with_rest, most_moves, cells, after_event, own, own_step}
+use Rattle.reports.specs.Machine.{St, load, store, told, kept_pages, waking, up, first_found, found_first, page_told, missing, begun, begun_from, next_sequence, committed, move, move_at, with_rest, most_moves, cells, after_event, own, own_step}
 use Rattle.reports.proofs.Moves.{moves_keep}
 use Rattle.reports.proofs.Stepping.{step_at}
 

@@ -1,10 +1,10 @@
 -- THE MAIN THEOREM for what the engine knows now: coming up and each command, by moves, and from these the whole. Assumes nothing.
-use Rattle.std.proofs.Common.{◌≡◌, ℕ, zero, suc, ◌+◌, ◌-◌, ◌<◌, ◌≤◌, Bool, true, false, eqb, ltb, ◌⊎◌, List, [], ◌∷◌, ◌++◌, length, Some, None, Option, sym, refl, ap, ◌∙◌, subst, inl, inr, arith, ltb-true, lt-ltb}
+use Rattle.std.proofs.Common.{◌≡◌, ℕ, suc, ◌+◌, ◌-◌, ◌<◌, ◌≤◌, true, false, eqb, ltb, ◌⊎◌, List, [], ◌∷◌, length, Some, None, Option, sym, refl, ap, ◌∙◌, subst, inl, inr, arith, ltb-true, lt-ltb}
 use Rattle.std.proofs.lemmas.Bool.{and_from}
 use Rattle.pages.specs.Lists.{pick, every, zeros, none_of}
 use Rattle.pages.specs.Device.{Device, Page, page_at, all_written, read_page, flushed, left, stopped, a_page, blank}
-use Rattle.pages.specs.Head.{head_numbers, root_numbers, head_page, fits_eights, read_head, chosen, standing, empty_head}
-use Rattle.pages.specs.Commit.{Stands, Atomic, past_heads, committing, CommitAtomic}
+use Rattle.pages.specs.Head.{root_numbers, head_page, fits_eights, read_head, chosen, empty_head}
+use Rattle.pages.specs.Commit.{Stands, Atomic, past_heads, CommitAtomic}
 use Rattle.pages.specs.declared.roots.Root.{Root}
 use Rattle.pages.specs.declared.roots.Head.{Head}
 use Rattle.pages.specs.declared.roots.Standing.{Standing}
@@ -18,14 +18,13 @@ use Rattle.reports.specs.Command.{Command, put, remove, note, ask, how_many, fet
 use Rattle.reports.specs.Reading.{Reading, no_command, a_command, read_command}
 use Rattle.reports.specs.Plain.{Plain, turn, after_stop, named}
 use Rattle.reports.specs.Run.{Event, on, said, page, next, World, queued, refusal_end, new_world}
-use Rattle.reports.specs.Moves.{goes, acts, moves}
+use Rattle.reports.specs.Moves.{moves}
 use Rattle.reports.specs.Registers.{at_phase, refusal_next}
-use Rattle.reports.specs.Machine.{St, load, store, told, waking, up, first_found, found_first, page_told, missing, begun, begun_from, filled, next_sequence, next_head, other_page, committed, move, most_moves, cells, after_event, own}
-use Rattle.reports.specs.declared.registers.Phase.{Phase}
-use Rattle.reports.specs.declared.registers.Phase.TheVariants.{Idle, First, Second, Refusing, Flushing, Heading, Settling, Finishing}
+use Rattle.reports.specs.Machine.{St, load, store, told, waking, up, first_found, found_first, page_told, missing, begun, begun_from, next_sequence, next_head, other_page, committed, move, most_moves, cells, after_event, own}
+use Rattle.reports.specs.declared.registers.Phase.TheVariants.{Idle, First, Second, Flushing}
 use Rattle.reports.specs.declared.registers.Ledger.{Ledger}
 use Rattle.reports.specs.declared.registers.Registers.{Registers}
-use Rattle.reports.specs.Promise.{Never, Said, May, KnownMay, may_use, Whole}
+use Rattle.reports.specs.Promise.{Said, May, KnownMay, may_use, Whole}
 use Rattle.reports.proofs.Logic.{Well, weaker, right, Boots, Obeys, EitherStands, Obeyed}
 use Rattle.reports.proofs.Moves.{Runs, reading, writing, flushing, ending, refusing, goes_well}
 use Rattle.reports.proofs.Reading.{read_said, said_read}

@@ -1,6 +1,6 @@
 -- THE ENGINE ITSELF: its memory with registers and regions, what an event does to the registers, one move, and the step made of these.
 -- Assumes nothing: these are definitions.
-use Rattle.std.specs.Prelude.{ℕ, zero, suc, ◌-◌, Bool, true, false, ◌&&◌, List, [], ◌∷◌, ◌++◌, length, drop, Some, None, Option, ◌==◌, nat_le, nat_lt}
+use Rattle.std.specs.Prelude.{ℕ, suc, ◌-◌, List, ◌++◌, length, drop, Some, None, Option, ◌==◌, nat_le, nat_lt}
 use Rattle.pages.specs.Lists.{pick, zeros}
 use Rattle.pages.specs.Device.{a_page}
 use Rattle.pages.specs.Head.{read_head, chosen, head_page, empty_head}
@@ -9,7 +9,7 @@ use Rattle.pages.specs.declared.roots.Head.{Head}
 use Rattle.pages.specs.declared.roots.Standing.{Standing}
 use Rattle.reports.specs.Command.{Command, put, remove, note, ask, how_many, fetch, list_words, sweep}
 use Rattle.reports.specs.Reading.{Reading, no_command, a_command, read_command}
-use Rattle.reports.specs.Run.{Engine, Event, on, said, page, next, Act, read, write, flush, done, refused, Step}
+use Rattle.reports.specs.Run.{Engine, Event, on, said, page, next, read, write, flush, done, refused, Step}
 use Rattle.reports.specs.Moves.{Moved, goes, acts, moves}
 use Rattle.reports.specs.Registers.{register_numbers, register_count, registers_in, at_phase, refusal_next}
 use Rattle.reports.specs.declared.registers.Phase.{Phase}

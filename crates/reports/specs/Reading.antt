@@ -3,7 +3,7 @@ use Rattle.std.specs.Prelude.{ℕ, Bool, true, false, List, [], ◌∷◌, lengt
 use Rattle.pages.specs.Lists.{pick, or, none_of}
 use Rattle.pages.specs.Bytes.{all_bytes}
 use Rattle.questions.specs.Spelling.{a_word}
-use Rattle.questions.specs.Reading.{Read, nothing, got, then, only, read_byte, read_number, read_within, read_bytes, read_query, Asked}
+use Rattle.questions.specs.Reading.{Read, nothing, got, then, only, read_byte, read_number, read_within, read_bytes, read_query}
 use Rattle.reports.specs.Command.{Command, put, remove, note, ask, how_many, fetch, list_words, sweep}
 
 pub data Reading : Type 0 where

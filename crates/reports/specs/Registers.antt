@@ -1,10 +1,9 @@
 -- The registers of the machine as the numbers that stand for them at the front of its memory, and back. Assumes nothing: these are definitions.
-use Rattle.std.specs.Prelude.{ℕ, ◌+◌, List, [], ◌∷◌, ◌++◌, ◌==◌, slice_index}
+use Rattle.std.specs.Prelude.{ℕ, ◌+◌, List, ◌∷◌, ◌++◌, ◌==◌, slice_index}
 use Rattle.pages.specs.Lists.{pick}
-use Rattle.pages.specs.Head.{segment_numbers, root_numbers, head_numbers}
+use Rattle.pages.specs.Head.{root_numbers, head_numbers}
 use Rattle.pages.specs.declared.roots.Segment.{Segment}
 use Rattle.pages.specs.declared.roots.Root.{Root}
-use Rattle.pages.specs.declared.roots.Head.{Head}
 use Rattle.pages.specs.declared.roots.Standing.{Standing}
 use Rattle.reports.specs.declared.registers.Phase.{Phase}
 use Rattle.reports.specs.declared.registers.Phase.TheVariants.{Idle, First, Second, Refusing, Flushing, Heading, Settling, Finishing}

@@ -1,7 +1,7 @@
 -- What the parts of a step do, by the machine's definitions: what an event is, a move, and moves until there is an act. For each case of an answer
 -- its number and values. Assumes nothing: these are definitions.
 use Rattle.std.specs.Prelude.{◌≡◌, ℕ, zero, suc, List, Some, None, Option}
-use Rattle.reports.specs.Run.{Event, on, said, page, next, Act, Step}
+use Rattle.reports.specs.Run.{Event, on, said, page, next, Step}
 use Rattle.reports.specs.Moves.{Moved, goes, acts, moves}
 use Rattle.reports.specs.Machine.{St, move, store, most_moves}
 use Rattle.reports.specs.Entry.{ActTold}

@@ -1,4 +1,4 @@
-use Rattle.std.proofs.Common.{◌≡◌, map, is_ok, vec_items, sym, ap, ◌∙◌, arith, take_all}
+use Rattle.std.proofs.Common.{map, is_ok, vec_items, ap, ◌∙◌, arith, take_all}
 use Rattle.std.proofs.ResultArms.{chosen}
 use Rattle.console.specs.Answered.{line_of, lines}
 use Rattle.console.proofs.Texts.{line_step}

@@ -1,4 +1,4 @@
-use Rattle.std.proofs.Common.{◌≡◌, is_ok, ap, ◌∙◌, arith, take_all}
+use Rattle.std.proofs.Common.{is_ok, ap, ◌∙◌, arith, take_all}
 use Rattle.std.proofs.ResultArms.{chosen}
 use Rattle.console.specs.Hex.{in_hex}
 use Rattle.console.proofs.Texts.{hex_step}

@@ -1,4 +1,4 @@
-use Rattle.std.proofs.Common.{◌≡◌, ◌+◌, ◌*◌, ◌<◌, length, get_or, is_ok, ap, ◌∙◌, arith, take_all, ltb-true}
+use Rattle.std.proofs.Common.{◌+◌, ◌*◌, ◌<◌, get_or, is_ok, ap, ◌∙◌, arith, take_all, ltb-true}
 use Rattle.std.proofs.ResultArms.{chosen}
 use Rattle.console.specs.Hex.{worth, is_digit, from_hex}
 use Rattle.console.proofs.Texts.{every_at, pair_step}

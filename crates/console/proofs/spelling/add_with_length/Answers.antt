@@ -1,4 +1,4 @@
-use Rattle.std.proofs.Common.{◌≡◌, ◌++◌, length, is_ok, vec_items, ap, ◌∙◌, append_assoc}
+use Rattle.std.proofs.Common.{◌++◌, length, is_ok, vec_items, ap, ◌∙◌, append_assoc}
 use Rattle.std.proofs.ResultArms.{chosen}
 use Rattle.pages.specs.Bytes.{eight}
 use Rattle.console.proofs.spelling.add_with_length.Goals as goal

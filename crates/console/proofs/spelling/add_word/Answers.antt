@@ -1,4 +1,4 @@
-use Rattle.std.proofs.Common.{◌≡◌, [], ◌∷◌, ◌++◌, is_ok, vec_items, ap, ◌∙◌, append_assoc}
+use Rattle.std.proofs.Common.{[], ◌∷◌, ◌++◌, is_ok, vec_items, ap, ◌∙◌, append_assoc}
 use Rattle.std.proofs.ResultArms.{chosen}
 use Rattle.pages.specs.Bytes.{with_length}
 use Rattle.questions.specs.Spelling.{query_spelled}

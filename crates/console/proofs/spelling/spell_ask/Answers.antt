@@ -1,4 +1,4 @@
-use Rattle.std.proofs.Common.{◌≡◌, ◌++◌, ap, ◌∙◌}
+use Rattle.std.proofs.Common.{◌++◌, ap, ◌∙◌}
 use Rattle.questions.specs.Spelling.{query_spelled}
 use Rattle.reports.specs.Command.{spelled}
 use Rattle.console.specs.Typed.{all_of}

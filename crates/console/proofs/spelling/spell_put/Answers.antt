@@ -1,4 +1,4 @@
-use Rattle.std.proofs.Common.{◌≡◌, ◌++◌, ap, ◌∙◌}
+use Rattle.std.proofs.Common.{◌++◌, ap, ◌∙◌}
 use Rattle.pages.specs.Bytes.{with_length}
 use Rattle.reports.specs.Command.{spelled}
 use Rattle.console.proofs.spelling.spell_put.Goals as goal

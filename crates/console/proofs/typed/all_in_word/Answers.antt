@@ -1,4 +1,4 @@
-use Rattle.std.proofs.Common.{◌≡◌, true, sym, ap, ◌∙◌, subst, arith, take_all}
+use Rattle.std.proofs.Common.{◌≡◌, true, sym, subst, arith, take_all}
 use Rattle.pages.specs.Lists.{every}
 use Rattle.words.specs.Words.{in_word}
 use Rattle.console.proofs.Texts.{every_more, every_not}

@@ -1,4 +1,4 @@
-use Rattle.std.proofs.Common.{◌≡◌, [], ◌∷◌, ◌++◌, take, is_ok, sym, ap, ◌∙◌, arith, take_all}
+use Rattle.std.proofs.Common.{take, is_ok, sym, ap, ◌∙◌, arith, take_all}
 use Rattle.std.proofs.ResultArms.{chosen}
 use Rattle.pages.specs.Lists.{each}
 use Rattle.words.specs.Words.{small}

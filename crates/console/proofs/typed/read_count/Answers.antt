@@ -1,4 +1,3 @@
-use Rattle.std.proofs.Common.{arith}
 use Rattle.console.proofs.Requests.{counted_fits}
 use Rattle.console.proofs.typed.read_count.Goals as goal
 

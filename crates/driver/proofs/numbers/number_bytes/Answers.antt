@@ -1,4 +1,4 @@
-use Rattle.std.proofs.Common.{◌≡◌, ℕ, ◌/◌, ◌%◌, List, [], ◌∷◌, sym, refl, ◌∙◌, arith}
+use Rattle.std.proofs.Common.{◌≡◌, ℕ, ◌/◌, ◌%◌, [], ◌∷◌, ◌∙◌, arith}
 use Rattle.pages.specs.Bytes.{in_bytes, eight}
 use Rattle.driver.proofs.numbers.number_bytes.Goals as goal
 

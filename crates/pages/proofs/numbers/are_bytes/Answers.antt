@@ -1,4 +1,4 @@
-use Rattle.std.proofs.Common.{◌≡◌, ◌<◌, eqb, ltb, sym, ap, ◌∙◌, arith, lt-ltb, eq-eqb}
+use Rattle.std.proofs.Common.{◌<◌, sym, ◌∙◌, arith, lt-ltb, eq-eqb}
 use Rattle.pages.proofs.Bytes.{all_bytes_places}
 use Rattle.pages.proofs.numbers.are_bytes.Goals as goal
 

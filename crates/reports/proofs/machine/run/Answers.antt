@@ -1,5 +1,5 @@
 use Rattle.std.proofs.Common.{length, refl, ap, arith}
-use Rattle.reports.proofs.Stepping.{TurnsLeft, turn_acts, turn_goes, turns_out}
+use Rattle.reports.proofs.Stepping.{turn_acts, turn_goes, turns_out}
 use Rattle.reports.proofs.machine.run.Goals as goal
 
 pub loop-init : goal.loop-init

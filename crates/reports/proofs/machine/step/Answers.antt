@@ -1,4 +1,4 @@
-use Rattle.std.proofs.Common.{◌≡◌, Bool, length, drop, sym, refl, ap, ◌∙◌, subst}
+use Rattle.std.proofs.Common.{Bool, drop, sym, refl, ap, ◌∙◌, subst}
 use Rattle.reports.specs.Registers.{register_count}
 use Rattle.reports.specs.Machine.{told}
 use Rattle.reports.specs.Entry.{StepSays, event_of}

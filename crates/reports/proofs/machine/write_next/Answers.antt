@@ -1,4 +1,4 @@
-use Rattle.std.proofs.Common.{◌≡◌, true, eqb, ◌++◌, length, take, drop, sym, refl, ap, ◌∙◌, arith, length-take, rules, eq-eqb}
+use Rattle.std.proofs.Common.{◌≡◌, true, eqb, ◌++◌, length, take, drop, sym, ap, ◌∙◌, arith, length-take, rules, eq-eqb}
 use Rattle.pages.specs.Lists.{pick}
 use Rattle.pages.specs.Head.{head_page}
 use Rattle.pages.proofs.Heads.{length_head_page}

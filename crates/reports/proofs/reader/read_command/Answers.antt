@@ -1,4 +1,4 @@
-use Rattle.std.proofs.Common.{◌≡◌, None, sym, subst}
+use Rattle.std.proofs.Common.{None, sym, subst}
 use Rattle.std.proofs.lemmas.List.{nil_from_length}
 use Rattle.reports.specs.Reading.{Reading}
 use Rattle.reports.specs.Request.{Hands}

@@ -1,4 +1,4 @@
-use Rattle.std.proofs.Common.{[], sym, refl, ◌∙◌}
+use Rattle.std.proofs.Common.{[], sym, refl}
 use Rattle.questions.specs.Reading.{read_query, Asked}
 use Rattle.reports.specs.Command.{how_many}
 use Rattle.reports.specs.Reading.{read_kind}

@@ -1,4 +1,4 @@
-use Rattle.std.proofs.Common.{◌+◌, ◌<◌, [], length, set, sym, ap, ◌∙◌, arith}
+use Rattle.std.proofs.Common.{◌+◌, [], set, sym, ap, ◌∙◌, arith}
 use Rattle.pages.proofs.Places.{written_none, written_before}
 use Rattle.reports.proofs.registers.put.Goals as goal
 

@@ -1,6 +1,5 @@
 use Rattle.std.proofs.Common.{[], ◌∷◌, ◌++◌, replicate, is_ok, sym, ap, ◌∙◌, add-one}
 use Rattle.std.proofs.ResultArms.{chosen}
-use Rattle.pages.specs.Device.{blank}
 use Rattle.driver.proofs.Rows.{blank_none, blank_more, zeros_replicate}
 use Rattle.driver.proofs.memory.MemoryDevice.new.Goals as goal
 

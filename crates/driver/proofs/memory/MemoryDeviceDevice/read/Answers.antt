@@ -1,4 +1,4 @@
-use Rattle.std.proofs.Common.{◌≡◌, ◌<◌, length, sym, refl, ap, ◌∙◌, arith}
+use Rattle.std.proofs.Common.{◌<◌, length, sym, refl, ap, ◌∙◌, arith}
 use Rattle.pages.specs.Device.{page_at}
 use Rattle.driver.proofs.Rows.{page_at_getD, length_all_written}
 use Rattle.driver.proofs.memory.MemoryDeviceDevice.read.Goals as goal

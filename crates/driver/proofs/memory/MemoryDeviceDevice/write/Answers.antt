@@ -1,4 +1,4 @@
-use Rattle.std.proofs.Common.{◌≡◌, length, set, refl, ap, ◌∙◌, arith}
+use Rattle.std.proofs.Common.{length, set, refl, ap, ◌∙◌, arith}
 use Rattle.driver.proofs.Rows.{set_page_set, all_written_more, length_all_written}
 use Rattle.driver.proofs.memory.MemoryDeviceDevice.write.Goals as goal
 

@@ -1,4 +1,4 @@
-use Rattle.std.proofs.Common.{◌+◌, ◌≤◌, [], ◌∷◌, length, ap, ◌∙◌, arith}
+use Rattle.std.proofs.Common.{◌≤◌, [], ◌∷◌, length, ap, ◌∙◌, arith}
 use Rattle.pages.specs.Places.{written}
 use Rattle.pages.proofs.Places.{written_then}
 use Rattle.reports.specs.Registers.{phase_number, ledger_numbers}
