@@ -25,18 +25,18 @@ mod tests {
         );
         assert_eq!(rt;
             token_word(b"The end", b"an END, the ant", tokens[0]),
-            b"an"
+            b"an".as_slice()
         );
         assert_eq!(rt;
             token_word(b"The end", b"an END, the ant", tokens[1]),
-            b"ant"
+            b"ant".as_slice()
         );
         assert_eq!(rt; token_place(tokens[1]), 32771);
         assert_eq!(rt; token_place(tokens[2]), 1);
         assert_eq!(rt; token_place(tokens[3]), 32769);
         assert_eq!(rt;
             token_word(b"The end", b"an END, the ant", tokens[4]),
-            b"The"
+            b"The".as_slice()
         );
         assert_eq!(rt;
             token_row(b"The end", b"an END, the ant", tokens[3], 9).len,

@@ -93,8 +93,8 @@ mod tests {
             return Err(Fail::new("no put"));
         };
         assert_eq!(rt; name, 7);
-        assert!(rt; title == b"ttt");
-        assert!(rt; body == b"bbbbb");
+        assert!(rt; title == b"ttt".as_slice());
+        assert!(rt; body == b"bbbbb".as_slice());
         Ok(())
     }
 
@@ -109,7 +109,7 @@ mod tests {
             return Err(Fail::new("no ask"));
         };
         assert_eq!(rt; most, 12);
-        assert!(rt; question == b"\x01\x00\x00\x00\x00\x00\x00\x00\x00\x01w");
+        assert!(rt; question == b"\x01\x00\x00\x00\x00\x00\x00\x00\x00\x01w".as_slice());
         Ok(())
     }
 

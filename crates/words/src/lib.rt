@@ -264,8 +264,8 @@ mod tests {
             len: 3,
             end: 5,
         };
-        assert_eq!(rt; word.bytes(b"- Two words"), b"Two");
-        assert_eq!(rt; word.bytes(b"- T"), b"T");
-        assert_eq!(rt; word.bytes(b""), b"");
+        assert_eq!(rt; word.bytes(b"- Two words"), b"Two".as_slice());
+        assert_eq!(rt; word.bytes(b"- T"), b"T".as_slice());
+        assert_eq!(rt; word.bytes(b""), b"".as_slice());
     }
 }
