@@ -11,7 +11,6 @@ use Rattle.pages.proofs.Device.{length_zeros, zeros_bytes}
 use Rattle.pages.proofs.Folds.{every_append}
 use Rattle.pages.proofs.Lists.{every_take, every_drop}
 use Rattle.pages.proofs.Places.{from_eight_below}
-use Rattle.words.specs.Words.{words}
 use Rattle.words.proofs.Laws.{words_few}
 use Rattle.documents.specs.Document.{Doc, long}
 use Rattle.documents.specs.declared.layout.Header.{Header}

@@ -1,5 +1,5 @@
 -- Laws for the making of tokens. Assumes nothing.
-use Rattle.std.proofs.Common.{◌≡◌, ℕ, suc, ◌+◌, ◌-◌, ◌*◌, ◌/◌, ◌%◌, ◌<◌, ◌≤◌, Bool, true, false, ltb, leb, List, [], ◌∷◌, ◌++◌, length, take, drop, set, sym, refl, ap, ◌∙◌, subst, append_assoc, append-nil, arith, length-take}
+use Rattle.std.proofs.Common.{◌≡◌, ℕ, suc, ◌+◌, ◌-◌, ◌*◌, ◌/◌, ◌%◌, ◌<◌, ◌≤◌, true, leb, List, [], ◌∷◌, ◌++◌, length, take, drop, set, sym, refl, ap, ◌∙◌, subst, append_assoc, append-nil, arith, length-take}
 use Rattle.std.specs.List.{AllByRecursion as All}
 use Rattle.std.proofs.lemmas.List.{take_more_set, take-set-le, drop-append-le, drop-set-lt, drop-drop, drop_all, take-take, take-append-drop}
 use Rattle.std.proofs.ByRecursion.{All-weaker}
@@ -11,8 +11,8 @@ use Rattle.words.specs.Stretches.{to_come, word_at, Found}
 use Rattle.words.specs.declared.Word.{Word}
 use Rattle.words.proofs.Laws.{come_from_start, words_few, words_every}
 use Rattle.rows.specs.Rows.{Row}
-use Rattle.places.specs.Places.{placed, word_rows}
-use Rattle.places.specs.Tokens.{first_word, key_at, token_place, token_text, text_row, token_row, rows_of_tokens, Added, tokens_fit, Indexed}
+use Rattle.places.specs.Places.{placed}
+use Rattle.places.specs.Tokens.{first_word, key_at, token_place, text_row, token_row, rows_of_tokens, Added, tokens_fit, Indexed}
 use Rattle.places.proofs.Numbered.{placed_places, every_true}
 
 -- while tokens are put: those that are there and the words to come are all of them

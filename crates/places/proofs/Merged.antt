@@ -1,14 +1,14 @@
 -- Laws for the merging and sorting of tokens. Assumes nothing.
-use Rattle.std.proofs.Common.{◌≡◌, ℕ, suc, ◌+◌, ◌-◌, ◌<◌, ◌≤◌, Bool, true, false, List, [], ◌∷◌, ◌++◌, length, get_or, take, drop, set, Some, None, Option, Ordering, Less, Equal, Greater, sym, refl, ap, ◌∙◌, subst, ⊎_elim, append_assoc, append-nil, arith}
+use Rattle.std.proofs.Common.{◌≡◌, ℕ, ◌+◌, ◌-◌, ◌<◌, ◌≤◌, true, false, List, [], ◌∷◌, ◌++◌, length, get_or, take, drop, set, Some, Option, Ordering, Less, Equal, Greater, sym, refl, ap, ◌∙◌, subst, ⊎_elim, append_assoc, append-nil, arith}
 use Rattle.std.proofs.lemmas.Bool.{cases_lt}
 use Rattle.std.proofs.lemmas.List.{take_more_set, drop_more, drop_all, take-append-drop, take_at, drop_at}
 use Rattle.std.specs.Ordering.{is_gt}
 use Rattle.pages.specs.Lists.{pick, each}
 use Rattle.pages.proofs.Folds.{each_append}
 use Rattle.pages.proofs.Sorted.{Different}
-use Rattle.rows.specs.Rows.{Row, row_less}
+use Rattle.rows.specs.Rows.{Row}
 use Rattle.rows.specs.Orders.{RowsCompared}
-use Rattle.rows.specs.Merging.{Rising, Least, or_first, least, merged, merge_rows}
+use Rattle.rows.specs.Merging.{Rising, Least, least, merged, merge_rows}
 use Rattle.rows.proofs.Merged.{merge_steps}
 use Rattle.places.specs.Places.{name_row, word_rows, insert_row, sorted_rows}
 use Rattle.places.specs.Tokens.{token_row, rows_of_tokens, NotAfter, Before, Chosen, Indexed, Placed}

@@ -1,5 +1,5 @@
 -- Laws of the rows of a document. Assumes nothing.
-use Rattle.std.proofs.Common.{◌≡◌, ℕ, suc, ◌+◌, ◌<◌, ◌≤◌, Bool, true, false, ◌&&◌, leb, List, [], ◌∷◌, ◌++◌, length, sym, refl, ap, ◌∙◌, subst, inl, arith, length-append}
+use Rattle.std.proofs.Common.{◌≡◌, ℕ, suc, ◌+◌, ◌<◌, ◌≤◌, Bool, true, false, ◌&&◌, leb, List, [], ◌∷◌, length, sym, refl, ap, ◌∙◌, subst, inl, arith, length-append}
 use Rattle.std.specs.List.{AllByRecursion as All}
 use Rattle.std.proofs.ByRecursion.{All-append, All-weaker}
 use Rattle.std.proofs.lemmas.Bool.{and_parts, and_from, le-leb, leb-true, both_ways, true≢false}
@@ -8,13 +8,13 @@ use Rattle.pages.specs.Lists.{every, added_up, earlier}
 use Rattle.pages.specs.Bytes.{in_bytes, eight}
 use Rattle.pages.proofs.Folds.{all_from_every, added_up_append}
 use Rattle.pages.proofs.Lists.{earlier_less}
-use Rattle.pages.proofs.Perm.{Perm, perm_all}
+use Rattle.pages.proofs.Perm.{perm_all}
 use Rattle.pages.proofs.Sorted.{Different}
 use Rattle.words.specs.Words.{in_word, small, words}
 use Rattle.words.proofs.Laws.{words_every}
 use Rattle.rows.specs.Rows.{Row, row_less, row_size, rows_size}
 use Rattle.rows.proofs.Ordered.{less_from, less_one_way, less_irreflexive}
-use Rattle.documents.specs.Document.{Doc, long, all_words}
+use Rattle.documents.specs.Document.{Doc}
 use Rattle.documents.specs.Room.{row_bytes}
 use Rattle.places.specs.Places.{name_key, name_row, placed, word_rows, doc_rows, sorted_rows}
 use Rattle.places.specs.Laws.{PlacesStand}

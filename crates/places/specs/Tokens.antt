@@ -5,7 +5,6 @@ use Rattle.pages.specs.Lists.{pick, each}
 use Rattle.words.specs.Words.{words}
 use Rattle.words.specs.Stretches.{to_come}
 use Rattle.rows.specs.Rows.{Row, row_less}
-use Rattle.documents.specs.Document.{Doc}
 use Rattle.places.specs.Places.{name_row, placed, word_rows, doc_rows, sorted_rows}
 
 abbrev pub first_word : List (List ℕ) → List ℕ

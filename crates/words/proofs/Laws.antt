@@ -5,7 +5,7 @@ use lib.Seq.{take-nil, append_snoc}
 use Rattle.std.proofs.lemmas.List.{at_drop_more, at_drop_all, drop_all, take_all, length-append}
 use Rattle.std.proofs.lemmas.Bool.{and_parts, and_from, cases_Bool, cases_lt, le-leb, leb-true}
 use Rattle.std.proofs.lemmas.Bool.Decides.{nat_tests}
-use Rattle.pages.specs.Lists.{pick, or, every, each, added_up}
+use Rattle.pages.specs.Lists.{pick, every, each, added_up}
 use Rattle.pages.proofs.Folds.{length_each}
 use Rattle.pages.proofs.Lists.{every_join, every_take, each_take}
 use Rattle.words.specs.Words.{in_word, small, ended, words_from, words}

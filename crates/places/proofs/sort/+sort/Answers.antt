@@ -1,4 +1,4 @@
-use Rattle.std.proofs.Common.{◌≡◌, ◌+◌, ◌-◌, length, take, sym, ap, ◌∙◌, arith}
+use Rattle.std.proofs.Common.{◌≡◌, ◌+◌, ◌-◌, length, take, ap, ◌∙◌, arith}
 use Rattle.places.specs.Tokens.{token_row, rows_of_tokens}
 use Rattle.places.proofs.Merged.{left_different, right_different, halves_merged, sorted_rising, few_sorted}
 use Rattle.places.proofs.sort.+sort.Goals as goal

@@ -1,4 +1,4 @@
-use Rattle.std.proofs.Common.{refl, arith}
+use Rattle.std.proofs.Common.{arith}
 use Rattle.places.proofs.Merged.{chosen_no_left, chosen_no_right, chosen_right, chosen_left}
 use Rattle.places.proofs.sort.left_first.Goals as goal
 

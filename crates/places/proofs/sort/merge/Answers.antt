@@ -1,4 +1,4 @@
-use Rattle.std.proofs.Common.{◌≡◌, ℕ, ◌+◌, ◌-◌, ◌<◌, Bool, List, length, sym, subst, arith}
+use Rattle.std.proofs.Common.{ℕ, ◌+◌, ◌-◌, ◌<◌, Bool, List, length, sym, subst, arith}
 use Rattle.places.specs.Tokens.{Chosen}
 use Rattle.places.proofs.Merged.{Merging, merging_none, merging_left, merging_right, merging_all, next_right}
 use Rattle.places.proofs.sort.merge.Goals as goal

@@ -1,4 +1,4 @@
-use Rattle.std.proofs.Common.{◌-◌, length}
+use Rattle.std.proofs.Common.{length}
 use Rattle.words.specs.Stretches.{to_come}
 use Rattle.places.proofs.Made.{Adding}
 use Rattle.places.proofs.tokens.add_words.Given as goal
