@@ -4,6 +4,7 @@
 use console::{Request, answer, command_bytes, open_engine, read_request, report};
 use driver::{Engine, FileDevice, MOST_ACTS};
 use std::io::{BufRead, BufReader, Write};
+use std::process::ExitCode;
 
 const HELP: &str = "put NUMBER TITLE | BODY    keeps a document, or replaces the one of that number
 remove NUMBER              removes a document
@@ -15,8 +16,12 @@ help                       prints this
 quit                       ends
 A word may begin with title: or body: to be looked for only there.";
 
-fn main(rt: HostRuntime) -> anyhow::Result<()> {
-    report(&rt, run(&rt))
+fn main(rt: HostRuntime) -> ExitCode {
+    match report(&rt, run(&rt)) {
+        Ok(()) => ExitCode::SUCCESS,
+        // What was wrong is printed by now, and not once more by the runtime.
+        Err(_) => ExitCode::FAILURE,
+    }
 }
 
 fn run(rt: &HostRuntime) -> anyhow::Result<()> {

@@ -4,9 +4,14 @@
 use console::{bytes_of_hex, hex_of, open_engine, report};
 use driver::{End, Engine, FileDevice, MOST_ACTS};
 use std::io::{BufRead, BufReader};
+use std::process::ExitCode;
 
-fn main(rt: HostRuntime) -> anyhow::Result<()> {
-    report(&rt, run(&rt))
+fn main(rt: HostRuntime) -> ExitCode {
+    match report(&rt, run(&rt)) {
+        Ok(()) => ExitCode::SUCCESS,
+        // What was wrong is printed by now, and not once more by the runtime.
+        Err(_) => ExitCode::FAILURE,
+    }
 }
 
 fn run(rt: &HostRuntime) -> anyhow::Result<()> {
