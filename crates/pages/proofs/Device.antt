@@ -1,6 +1,6 @@
 -- Laws of pages, of what is written to them, and of what a stop leaves. Assumes nothing.
 use Rattle.std.proofs.Common.{◌≡◌, ℕ, zero, suc, ◌<◌, ◌≤◌, Bool, true, eqb, ltb, ◌⊎◌, List, [], ◌∷◌, ◌++◌, length, get_or, take, drop, set, replicate, sym, refl, ap, ◌∙◌, subst, inl, inr, ⊎_elim, le_of_suc-le-suc, not-suc-le-zero, arith, length-append, length-drop, length-set, length-take}
-use Rattle.std.specs.List.{AllByRecursion as All}
+use Rattle.std.specs.List.{AllByRecursion}
 use Rattle.std.proofs.ByRecursion.{All-set, All-get_or, All-append, All-take, All-drop, All-weaker}
 use Rattle.std.proofs.lemmas.List.{get_or-set_same, get_or-set_other, set-set, set_comm, set-get_or, set_past, ext_get_or, take_at, drop_at, length-take-le}
 use Rattle.std.proofs.lemmas.Bool.{cases_eq, cases_lt, and_parts, and_from, eqb-true, eq-eqb}
@@ -48,14 +48,14 @@ pub pages_same : (ps qs : List Page) → length ps ≡ length qs → ((k : ℕ) 
 pages_same ps qs l h = ext_get_or [] ps qs l (λ k m. sym (page_at_is_getD ps k) ∙ h k m ∙ page_at_is_getD qs k)
 
 -- what holds of every page
-pub all_set_page : (P : Page → Type 0) (ps : List Page) (k : ℕ) (p : Page) → P p → All P ps → All P (set_page ps k p)
+pub all_set_page : (P : Page → Type 0) (ps : List Page) (k : ℕ) (p : Page) → P p → AllByRecursion P ps → AllByRecursion P (set_page ps k p)
 all_set_page P ps k p h a = rw set_page_is_set (All-set P ps k p h a)
 
-pub all_page_at : (P : Page → Type 0) (ps : List Page) (k : ℕ) → k < length ps → All P ps → P (page_at ps k)
+pub all_page_at : (P : Page → Type 0) (ps : List Page) (k : ℕ) → k < length ps → AllByRecursion P ps → P (page_at ps k)
 all_page_at P ps k h a = rw page_at_is_getD (All-get_or P ps k [] h a)
 
 -- WRITES. What each write keeps, all of them keep
-pub written_keeps : (P : List Page → Type 0) (ws : List Write) → All (λ w. (qs : List Page) → P qs → P (set_page qs w.at w.page)) ws →
+pub written_keeps : (P : List Page → Type 0) (ws : List Write) → AllByRecursion (λ w. (qs : List Page) → P qs → P (set_page qs w.at w.page)) ws →
     (ps : List Page) → P ps → P (all_written ps ws)
 unfolding all_written
 written_keeps P [] a ps h = h
@@ -82,7 +82,7 @@ length_written ps (w ∷ ws) = length_written (set_page ps w.at w.page) ws ∙ l
 
 -- writes to other pages
 abbrev pub Elsewhere : ℕ → List Write → Type 0
-Elsewhere k ws = All (λ w. w.at ≡ k → ⊥) ws
+Elsewhere k ws = AllByRecursion (λ w. w.at ≡ k → ⊥) ws
 
 pub written_elsewhere : (ps : List Page) (ws : List Write) (k : ℕ) → Elsewhere k ws → page_at (all_written ps ws) k ≡ page_at ps k
 unfolding all_written
@@ -128,10 +128,10 @@ page_read ps k ws h =
     ))
     (last_write k ws)
 
-pub all_pages_written : (P : Page → Type 0) (ps : List Page) (ws : List Write) → All P ps → All (λ w. P w.page) ws → All P (all_written ps ws)
+pub all_pages_written : (P : Page → Type 0) (ps : List Page) (ws : List Write) → AllByRecursion P ps → AllByRecursion (λ w. P w.page) ws → AllByRecursion P (all_written ps ws)
 all_pages_written P ps ws h a =
-    written_keeps (All P) ws
-    (All-weaker (λ w. P w.page) (λ w. (qs : List Page) → All P qs → All P (set_page qs w.at w.page)) (λ w p qs. all_set_page P qs w.at w.page p) ws a) ps h
+    written_keeps (AllByRecursion P) ws
+    (All-weaker (λ w. P w.page) (λ w. (qs : List Page) → AllByRecursion P qs → AllByRecursion P (set_page qs w.at w.page)) (λ w p qs. all_set_page P qs w.at w.page p) ws a) ps h
 
 -- FLUSHED: nothing waits any more, and whoever reads sees the same
 pub flushed_flushed : (d : Device) → flushed (flushed d) ≡ flushed d
@@ -168,14 +168,14 @@ left_of_either P ps w c none all part = pick_either P (eqb c 1) _ _ all (pick_ei
 
 -- what each write keeps, whole or half, a stop keeps
 pub left_keeps : (P : List Page → Type 0) (ws : List Write) →
-    All (λ w. (qs : List Page) → P qs → P (set_page qs w.at w.page) × P (set_page qs w.at (half w.page (page_at qs w.at)))) ws →
+    AllByRecursion (λ w. (qs : List Page) → P qs → P (set_page qs w.at w.page) × P (set_page qs w.at (half w.page (page_at qs w.at)))) ws →
     (ps : List Page) (cs : List ℕ) → P ps → P (left ps ws cs)
 unfolding left
 left_keeps P [] a ps cs h = h
 left_keeps P (w ∷ ws) a ps [] h = h
 left_keeps P (w ∷ ws) a ps (c ∷ cs) h = left_keeps P ws a.1 (left_of ps w c) cs (left_of_either P ps w c h (a.0 ps h).0 (a.0 ps h).1)
 
-all_always : {A : Type 0} (P : A → Type 0) → ((x : A) → P x) → (xs : List A) → All P xs
+all_always : {A : Type 0} (P : A → Type 0) → ((x : A) → P x) → (xs : List A) → AllByRecursion P xs
 all_always P f [] = tt
 all_always P f (x ∷ xs) = (f x, all_always P f xs)
 
@@ -263,18 +263,18 @@ pub drop_half : (new old : Page) → 256 ≤ length new → drop 256 (half new o
 unfolding half
 drop_half new old h = drop_at (take 256 new) (drop 256 old) 256 (length-take-le 256 new h)
 
-pub all_half : (P : ℕ → Type 0) (new old : Page) → All P new → All P old → All P (half new old)
+pub all_half : (P : ℕ → Type 0) (new old : Page) → AllByRecursion P new → AllByRecursion P old → AllByRecursion P (half new old)
 unfolding half
 all_half P new old h k = All-append P (take 256 new) (drop 256 old) (All-take P 256 new h) (All-drop P 256 old k)
 
 -- what holds of every page after a stop
 pub all_pages_left : (P : Page → Type 0) → ((new old : Page) → P new → P old → P (half new old)) → (ps : List Page) (ws : List Write) (cs : List ℕ) →
-    All P ps → All (λ w. P w.page) ws → All P (left ps ws cs)
+    AllByRecursion P ps → AllByRecursion (λ w. P w.page) ws → AllByRecursion P (left ps ws cs)
 all_pages_left P f ps ws cs h a =
-    let part : (w : Write) → P w.page → (qs : List Page) → All P qs → All P (set_page qs w.at (half w.page (page_at qs w.at))) = λ w p qs k.
-    ⊎_elim (λ l. all_set_page P qs w.at _ (f w.page _ p (all_page_at P qs w.at l k)) k) (λ l. subst (All P) (sym (set_page_past qs w.at _ l)) k)
+    let part : (w : Write) → P w.page → (qs : List Page) → AllByRecursion P qs → AllByRecursion P (set_page qs w.at (half w.page (page_at qs w.at))) = λ w p qs k.
+    ⊎_elim (λ l. all_set_page P qs w.at _ (f w.page _ p (all_page_at P qs w.at l k)) k) (λ l. subst (AllByRecursion P) (sym (set_page_past qs w.at _ l)) k)
     (cases_lt w.at (length qs)) in
-    left_keeps (All P) ws (All-weaker (λ w. P w.page) _ (λ w p qs k. (all_set_page P qs w.at w.page p k, part w p qs k)) ws a) ps cs h
+    left_keeps (AllByRecursion P) ws (All-weaker (λ w. P w.page) _ (λ w p qs k. (all_set_page P qs w.at w.page p k, part w p qs k)) ws a) ps cs h
 
 pub a_page_half : (new old : Page) → a_page new ≡ true → a_page old ≡ true → a_page (half new old) ≡ true
 a_page_half new old h k =
@@ -321,7 +321,7 @@ unfolding zeros
 zeros_bytes zero = refl
 zeros_bytes (suc n) = zeros_bytes n
 
-pub blank_pages : (n : ℕ) → All (λ p. a_page p ≡ true) (blank n)
+pub blank_pages : (n : ℕ) → AllByRecursion (λ p. a_page p ≡ true) (blank n)
 unfolding blank
 blank_pages zero = tt
 blank_pages (suc n) = (and_from _ _ (eq-eqb (length (zeros 512)) 512 (length_zeros 512)) (zeros_bytes 512), blank_pages n)

@@ -1,6 +1,6 @@
 -- Laws of the functions on lists: over lists one after the other, of functions that agree, and what a test of every element tells. Assumes nothing.
 use Rattle.std.proofs.Common.{◌≡◌, ℕ, suc, ◌+◌, Bool, true, false, ◌&&◌, ◌⊎◌, List, [], ◌∷◌, ◌++◌, length, sym, refl, ap, ◌∙◌, subst, inl, inr, ⊎_elim, arith}
-use Rattle.std.specs.List.{AllByRecursion as All}
+use Rattle.std.specs.List.{AllByRecursion}
 use Rattle.std.proofs.lemmas.Bool.{and_parts, and_from, cases_Bool, true≢false}
 use Rattle.pages.specs.Lists.{pick, or, every, any, each, those, added_up}
 
@@ -72,11 +72,11 @@ length_each f [] = refl
 length_each f (x ∷ xs) = ap suc (length_each f xs)
 
 -- a test of every element, and what holds of every element
-pub all_from_every : {A : Type 0} (p : A → Bool) (xs : List A) → every p xs ≡ true → All (λ x. p x ≡ true) xs
+pub all_from_every : {A : Type 0} (p : A → Bool) (xs : List A) → every p xs ≡ true → AllByRecursion (λ x. p x ≡ true) xs
 all_from_every p [] h = tt
 all_from_every p (x ∷ xs) h = let e = and_parts (p x) (every p xs) h in (e.0, all_from_every p xs e.1)
 
-pub every_from_all : {A : Type 0} (p : A → Bool) (xs : List A) → All (λ x. p x ≡ true) xs → every p xs ≡ true
+pub every_from_all : {A : Type 0} (p : A → Bool) (xs : List A) → AllByRecursion (λ x. p x ≡ true) xs → every p xs ≡ true
 every_from_all p [] h = refl
 every_from_all p (x ∷ xs) h = and_from (p x) (every p xs) h.0 (every_from_all p xs h.1)
 
@@ -85,19 +85,19 @@ every_weaker p q f [] h = refl
 every_weaker p q f (x ∷ xs) h = let e = and_parts (p x) (every p xs) h in and_from (q x) (every q xs) (f x e.0) (every_weaker p q f xs e.1)
 
 -- what passes a test, and what holds of what passes it
-pub all_those : {A : Type 0} (P : A → Type 0) (p : A → Bool) (xs : List A) → All P xs → All P (those p xs)
+pub all_those : {A : Type 0} (P : A → Type 0) (p : A → Bool) (xs : List A) → AllByRecursion P xs → AllByRecursion P (those p xs)
 all_those P p [] h = tt
 all_those P p (x ∷ xs) h =
-    elim (p x) as (λ b. All P (pick b (x ∷ those p xs) (those p xs))) [ true ↦ (h.0, all_those P p xs h.1) | false ↦ all_those P p xs h.1 ]
+    elim (p x) as (λ b. AllByRecursion P (pick b (x ∷ those p xs) (those p xs))) [ true ↦ (h.0, all_those P p xs h.1) | false ↦ all_those P p xs h.1 ]
 
-pub all_each : {A B : Type 0} (P : B → Type 0) (f : A → B) (xs : List A) → All (λ x. P (f x)) xs → All P (each f xs)
+pub all_each : {A B : Type 0} (P : B → Type 0) (f : A → B) (xs : List A) → AllByRecursion (λ x. P (f x)) xs → AllByRecursion P (each f xs)
 all_each P f [] h = tt
 all_each P f (x ∷ xs) h = (h.0, all_each P f xs h.1)
 
-pub those_pass : {A : Type 0} (p : A → Bool) (xs : List A) → All (λ x. p x ≡ true) (those p xs)
+pub those_pass : {A : Type 0} (p : A → Bool) (xs : List A) → AllByRecursion (λ x. p x ≡ true) (those p xs)
 those_pass p [] = tt
 those_pass p (x ∷ xs) =
-    let P : Bool → Type 0 = λ b. All (λ y. p y ≡ true) (pick b (x ∷ those p xs) (those p xs)) in
+    let P : Bool → Type 0 = λ b. AllByRecursion (λ y. p y ≡ true) (pick b (x ∷ those p xs) (those p xs)) in
     ⊎_elim (λ h. subst P (sym h) (h, those_pass p xs)) (λ h. subst P (sym h) (those_pass p xs)) (cases_Bool (p x))
 
 -- a choice of two, each of which has it

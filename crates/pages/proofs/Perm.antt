@@ -1,6 +1,6 @@
 -- Lists with the same elements, each as often, in any order; and what of the functions on lists does not depend on the order. Assumes nothing.
 use Rattle.std.proofs.Common.{◌≡◌, ℕ, suc, ◌+◌, Bool, true, false, ◌&&◌, ◌⊎◌, List, [], ◌∷◌, ◌++◌, length, sym, refl, ap, ◌∙◌, inl, inr, append-nil, arith}
-use Rattle.std.specs.List.{AllByRecursion as All}
+use Rattle.std.specs.List.{AllByRecursion}
 use Rattle.pages.specs.Lists.{pick, or, every, any, each, those, added_up}
 
 pub data Perm {A : Type 0} : List A → List A → Type 0 where
@@ -71,7 +71,7 @@ in_split x (y ∷ ys) (inr i) = let s = in_split x ys i in (y ∷ s.0, s.1, ap (
 pub perm_to_front : {A : Type 0} (x : A) (ys : List A) → In x ys → (zs : List A) × Perm ys (x ∷ zs)
 perm_to_front x ys i = let s = in_split x ys i in (s.0 ++ s.1, then (perm_same ys (s.0 ++ x ∷ s.1) s.2) (perm_middle s.0 x s.1))
 
-pub perm_all : {A : Type 0} (P : A → Type 0) {xs ys : List A} → Perm xs ys → All P xs → All P ys
+pub perm_all : {A : Type 0} (P : A → Type 0) {xs ys : List A} → Perm xs ys → AllByRecursion P xs → AllByRecursion P ys
 perm_all P none h = h
 perm_all P (keep x p) h = (h.0, perm_all P p h.1)
 perm_all P (swap x y xs) h = (h.1.0, (h.0, h.1.1))

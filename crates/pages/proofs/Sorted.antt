@@ -1,6 +1,6 @@
 -- Lists of which any two elements stand in a relation, the one in front first: sorted lists, and lists of different elements. Assumes nothing.
 use Rattle.std.proofs.Common.{◌≡◌, ℕ, zero, suc, ◌<◌, Bool, true, false, List, [], ◌∷◌, length, get_or, sym, refl, ap, ◌∙◌, subst, inl, inr, ⊎_elim, le_of_suc-le-suc, not-suc-le-zero}
-use Rattle.std.specs.List.{AllByRecursion as All}
+use Rattle.std.specs.List.{AllByRecursion}
 use Rattle.std.proofs.ByRecursion.{All-get_or, All-weaker}
 use Rattle.pages.specs.Lists.{pick, each, those}
 use Rattle.pages.proofs.Folds.{all_those, all_each}
@@ -8,7 +8,7 @@ use Rattle.pages.proofs.Perm.{Perm, none, keep, swap, then, In, perm_sym, perm_i
 
 abbrev pub Pairwise : {A : Type 0} → (A → A → Type 0) → List A → Type 0
 Pairwise R [] = Unit {0}
-Pairwise R (x ∷ xs) = All (R x) xs × Pairwise R xs
+Pairwise R (x ∷ xs) = AllByRecursion (R x) xs × Pairwise R xs
 
 pub pairwise_at : {A : Type 0} (R : A → A → Type 0) (xs : List A) (d : A) → Pairwise R xs → (i j : ℕ) → i < j → j < length xs → R (get_or xs i d) (get_or xs j d)
 pairwise_at R [] d h i j l m = absurd (not-suc-le-zero m)
@@ -38,12 +38,12 @@ perm_pairwise R s (keep x p) h = (perm_all (R x) p h.0, perm_pairwise R s p h.1)
 perm_pairwise R s (swap x y xs) h = ((s x y h.0.0, h.1.0), (h.0.1, h.1.1))
 perm_pairwise R s (then p q) h = perm_pairwise R s q (perm_pairwise R s p h)
 
-pub all_in : {A : Type 0} (P : A → Type 0) (xs : List A) (x : A) → All P xs → In x xs → P x
+pub all_in : {A : Type 0} (P : A → Type 0) (xs : List A) (x : A) → AllByRecursion P xs → In x xs → P x
 all_in P [] x h i = absurd i
 all_in P (y ∷ xs) x h (inl q) = subst P (sym q) h.0
 all_in P (y ∷ xs) x h (inr i) = all_in P xs x h.1 i
 
-pub in_all : {A : Type 0} (P : A → Type 0) (xs : List A) → ((x : A) → In x xs → P x) → All P xs
+pub in_all : {A : Type 0} (P : A → Type 0) (xs : List A) → ((x : A) → In x xs → P x) → AllByRecursion P xs
 in_all P [] f = tt
 in_all P (x ∷ xs) f = (f x (inl refl), in_all P xs (λ y i. f y (inr i)))
 
@@ -57,7 +57,7 @@ perm_from_members [] (y ∷ ys) h k f g = absurd (g y (inl refl))
 perm_from_members {A} (x ∷ xs) ys h k f g =
     let t = perm_to_front x ys (f x (inl refl)) in
     let d = perm_pairwise (λ a b. a ≡ b → ⊥) (λ a b n q. n (sym q)) t.1 k in
-    let rest : (vs us : List A) → All (λ a. x ≡ a → ⊥) vs → (z : A) → In z vs → In z (x ∷ us) → In z us = λ vs us n z i.
+    let rest : (vs us : List A) → AllByRecursion (λ a. x ≡ a → ⊥) vs → (z : A) → In z vs → In z (x ∷ us) → In z us = λ vs us n z i.
     ⊎_elim (λ q. absurd (all_in (λ a. x ≡ a → ⊥) vs z n i (sym q))) (λ j. j) in
     then
     (keep x
@@ -67,12 +67,12 @@ perm_from_members {A} (x ∷ xs) ys h k f g =
 
 -- A SORTED LIST WITH THE SAME MEMBERS IS THE SAME LIST, for an order of which no two elements stand both ways round
 module _ {A : Type 0} (R : A → A → Type 0) (apart : (x y : A) → R x y → R y x → ⊥) where
-  same_heads : (x : A) (xs : List A) (y : A) (ys : List A) → All (R x) xs → All (R y) ys → In x (y ∷ ys) → In y (x ∷ xs) → x ≡ y
+  same_heads : (x : A) (xs : List A) (y : A) (ys : List A) → AllByRecursion (R x) xs → AllByRecursion (R y) ys → In x (y ∷ ys) → In y (x ∷ xs) → x ≡ y
   same_heads x xs y ys h k (inl q) j = q
   same_heads x xs y ys h k (inr i) (inl q) = sym q
   same_heads x xs y ys h k (inr i) (inr j) = absurd (apart x y (all_in (R x) xs y h j) (all_in (R y) ys x k i))
 
-  in_tail : (x : A) (xs : List A) (y : A) (ys : List A) → All (R x) xs → x ≡ y → (z : A) → In z xs → In z (y ∷ ys) → In z ys
+  in_tail : (x : A) (xs : List A) (y : A) (ys : List A) → AllByRecursion (R x) xs → x ≡ y → (z : A) → In z xs → In z (y ∷ ys) → In z ys
   in_tail x xs y ys h q z i (inl e) = let r : R x x = subst (R x) (e ∙ sym q) (all_in (R x) xs z h i) in absurd (apart x x r r)
   in_tail x xs y ys h q z i (inr j) = j
 

@@ -1,6 +1,6 @@
 -- Laws for the making of tokens. Assumes nothing.
 use Rattle.std.proofs.Common.{◌≡◌, ℕ, suc, ◌+◌, ◌-◌, ◌*◌, ◌/◌, ◌%◌, ◌<◌, ◌≤◌, true, leb, List, [], ◌∷◌, ◌++◌, length, take, drop, set, sym, refl, ap, ◌∙◌, subst, append_assoc, append-nil, arith, length-take}
-use Rattle.std.specs.List.{AllByRecursion as All}
+use Rattle.std.specs.List.{AllByRecursion}
 use Rattle.std.proofs.lemmas.List.{take_more_set, take-set-le, drop-append-le, drop-set-lt, drop-drop, drop_all, take-take, take-append-drop}
 use Rattle.std.proofs.ByRecursion.{All-weaker}
 use Rattle.std.proofs.lemmas.Bool.{lt-ltb, le-ltb, le-leb, leb-true, and_from, and_parts}
@@ -90,11 +90,11 @@ module _ (text : List ℕ) (base from : ℕ) (before : List ℕ) (n at : ℕ) (t
       }
 
 -- the tokens of a title have places below 32768, those of a body from 32768 on
-each_agrees : {A B : Type 0} (f g : A → B) (xs : List A) → All (λ x. f x ≡ g x) xs → each f xs ≡ each g xs
+each_agrees : {A B : Type 0} (f g : A → B) (xs : List A) → AllByRecursion (λ x. f x ≡ g x) xs → each f xs ≡ each g xs
 each_agrees f g [] h = refl
 each_agrees f g (x ∷ xs) h = λ i. h.0 i ∷ each_agrees f g xs h.1 i
 
-all_of_each : {A B : Type 0} (P : B → Type 0) (f : A → B) (xs : List A) → All P (each f xs) → All (λ x. P (f x)) xs
+all_of_each : {A B : Type 0} (P : B → Type 0) (f : A → B) (xs : List A) → AllByRecursion P (each f xs) → AllByRecursion (λ x. P (f x)) xs
 all_of_each P f [] h = tt
 all_of_each P f (x ∷ xs) h = (h.0, all_of_each P f xs h.1)
 
@@ -102,7 +102,7 @@ module _ (doc : ℕ) (title body ts : List ℕ) where
   pub title_tokens : length (words title) ≤ 32768 → each (text_row doc title) ts ≡ placed doc 0 (words title) → rows_of_tokens doc title body ts ≡ placed doc 0 (words title)
   title_tokens l e =
       let P : Row → Type 0 = λ r. (0 ≤ r.place) × (r.place < 0 + length (words title)) in
-      let h : All P (each (text_row doc title) ts) = subst (All P) (sym e) (placed_places doc 0 (words title)) in
+      let h : AllByRecursion P (each (text_row doc title) ts) = subst (AllByRecursion P) (sym e) (placed_places doc 0 (words title)) in
       each_agrees (token_row doc title body) (text_row doc title) ts
       (All-weaker _ (λ (t : ℕ). token_row doc title body t ≡ text_row doc title t)
       (λ t k. ap (λ b. text_row doc (pick b title body) t) (lt-ltb (token_place t) 32768 (omega arith))) ts (all_of_each P (text_row doc title) ts h))
@@ -111,7 +111,7 @@ module _ (doc : ℕ) (title body ts : List ℕ) where
   pub body_tokens : each (text_row doc body) ts ≡ placed doc 32768 (words body) → rows_of_tokens doc title body ts ≡ placed doc 32768 (words body)
   body_tokens e =
       let P : Row → Type 0 = λ r. (32768 ≤ r.place) × (r.place < 32768 + length (words body)) in
-      let h : All P (each (text_row doc body) ts) = subst (All P) (sym e) (placed_places doc 32768 (words body)) in
+      let h : AllByRecursion P (each (text_row doc body) ts) = subst (AllByRecursion P) (sym e) (placed_places doc 32768 (words body)) in
       each_agrees (token_row doc title body) (text_row doc body) ts
       (All-weaker _ (λ (t : ℕ). token_row doc title body t ≡ text_row doc body t)
       (λ t k. ap (λ b. text_row doc (pick b title body) t) (le-ltb (token_place t) 32768 (omega arith))) ts (all_of_each P (text_row doc body) ts h))

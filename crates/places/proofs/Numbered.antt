@@ -1,6 +1,6 @@
 -- Laws of the rows of a document. Assumes nothing.
 use Rattle.std.proofs.Common.{◌≡◌, ℕ, suc, ◌+◌, ◌<◌, ◌≤◌, Bool, true, false, ◌&&◌, leb, List, [], ◌∷◌, length, sym, refl, ap, ◌∙◌, subst, inl, arith, length-append}
-use Rattle.std.specs.List.{AllByRecursion as All}
+use Rattle.std.specs.List.{AllByRecursion}
 use Rattle.std.proofs.ByRecursion.{All-append, All-weaker}
 use Rattle.std.proofs.lemmas.Bool.{and_parts, and_from, le-leb, leb-true, both_ways, true≢false}
 use Rattle.std.proofs.lemmas.Bool.Decides.{nat_tests}
@@ -25,12 +25,12 @@ unfolding placed
 placed_length doc p [] = refl
 placed_length doc p (w ∷ ws) = ap suc (placed_length doc (p + 1) ws)
 
-pub placed_places : (doc p : ℕ) (ws : List (List ℕ)) → All (λ r. (p ≤ r.place) × (r.place < p + length ws)) (placed doc p ws)
+pub placed_places : (doc p : ℕ) (ws : List (List ℕ)) → AllByRecursion (λ r. (p ≤ r.place) × (r.place < p + length ws)) (placed doc p ws)
 unfolding placed
 placed_places doc p [] = tt
 placed_places doc p (w ∷ ws) = ((omega arith, omega arith), All-weaker _ (λ (r : Row). (p ≤ r.place) × (r.place < p + suc (length ws))) (λ r h. (omega arith, omega arith)) _ (placed_places doc (p + 1) ws))
 
-pub placed_keys : (P : List ℕ → Type 0) (doc p : ℕ) (ws : List (List ℕ)) → All P ws → All (λ r. P r.key) (placed doc p ws)
+pub placed_keys : (P : List ℕ → Type 0) (doc p : ℕ) (ws : List (List ℕ)) → AllByRecursion P ws → AllByRecursion (λ r. P r.key) (placed doc p ws)
 unfolding placed
 placed_keys P doc p [] h = tt
 placed_keys P doc p (w ∷ ws) h = (h.0, placed_keys P doc (p + 1) ws h.1)
@@ -54,7 +54,7 @@ placed_different doc p (w ∷ ws) =
 pub word_rows_different : (doc : ℕ) (title body : List ℕ) → length (words title) ≤ 32768 → Different (word_rows doc title body)
 word_rows_different doc title body l =
     pairwise_join _ (placed doc 0 (words title)) (placed doc 32768 (words body)) (placed_different doc 0 (words title)) (placed_different doc 32768 (words body))
-    (All-weaker _ (λ (r : Row). All (λ q. r ≡ q → ⊥) (placed doc 32768 (words body)))
+    (All-weaker _ (λ (r : Row). AllByRecursion (λ q. r ≡ q → ⊥) (placed doc 32768 (words body)))
     (λ r h. All-weaker _ (λ (q : Row). r ≡ q → ⊥) (λ q k. apart r q (omega arith)) _ (placed_places doc 32768 (words body)))
     _ (placed_places doc 0 (words title)))
 
@@ -76,16 +76,16 @@ after_name n (c ∷ w) h =
     let k = leb-true 48 c (and_parts (leb 48 c) (every (λ b. leb 48 b) w) e.1).0 in
     earlier_less 1 c (eight n) w (omega arith)
 
-pub words_after_name : (n : ℕ) (bs : List ℕ) → All (λ w. earlier (name_key n) w ≡ true) (words bs)
+pub words_after_name : (n : ℕ) (bs : List ℕ) → AllByRecursion (λ w. earlier (name_key n) w ≡ true) (words bs)
 words_after_name n bs =
     All-weaker _ (λ (w : List ℕ). earlier (name_key n) w ≡ true) (after_name n) (words bs)
     (all_from_every high (words bs)
     (words_every (λ _. true) (λ c. leb 48 c) high (λ c _ t. small_high c t) (λ w some most k. and_from _ _ (le-leb 1 (length w) some) k) bs (every_true bs)))
 
-pub name_less : (doc n : ℕ) (title body : List ℕ) → All (λ q. row_less (name_row doc n) q ≡ true) (word_rows doc title body)
+pub name_less : (doc n : ℕ) (title body : List ℕ) → AllByRecursion (λ q. row_less (name_row doc n) q ≡ true) (word_rows doc title body)
 name_less doc n title body =
     let K : List ℕ → Type 0 = λ w. earlier (name_key n) w ≡ true in
-    let less : (p : ℕ) (bs : List ℕ) → All (λ q. row_less (name_row doc n) q ≡ true) (placed doc p (words bs)) = λ p bs.
+    let less : (p : ℕ) (bs : List ℕ) → AllByRecursion (λ q. row_less (name_row doc n) q ≡ true) (placed doc p (words bs)) = λ p bs.
     All-weaker _ (λ (q : Row). row_less (name_row doc n) q ≡ true) (λ q h. less_from (name_row doc n) q (inl h)) _ (placed_keys K doc p (words bs) (words_after_name n bs)) in
     All-append _ (placed doc 0 (words title)) _ (less 0 title) (less 32768 body)
 

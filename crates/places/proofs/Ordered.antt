@@ -1,6 +1,6 @@
 -- Laws of rows in order. Assumes nothing.
 use Rattle.std.proofs.Common.{◌≡◌, Bool, true, false, List, [], ◌∷◌, ◌++◌, sym, refl, ap, subst, ⊎_elim, append-nil}
-use Rattle.std.specs.List.{AllByRecursion as All}
+use Rattle.std.specs.List.{AllByRecursion}
 use Rattle.std.proofs.ByRecursion.{All-append, All-weaker}
 use Rattle.std.proofs.lemmas.Bool.{cases_Bool, both_ways}
 use Rattle.pages.specs.Lists.{pick}
@@ -13,7 +13,7 @@ use Rattle.rows.proofs.Ordered.{less_one_way, less_transitive, less_cases, less_
 use Rattle.rows.proofs.Merged.{merge_sorted}
 use Rattle.places.specs.Places.{insert_row, sorted_rows}
 
-all_front : {A : Type 0} (P : A → Type 0) (xs ys : List A) → All P (xs ++ ys) → All P xs
+all_front : {A : Type 0} (P : A → Type 0) (xs ys : List A) → AllByRecursion P (xs ++ ys) → AllByRecursion P xs
 all_front P [] ys h = tt
 all_front P (x ∷ xs) ys h = (h.0, all_front P xs ys h.1)
 
@@ -26,7 +26,7 @@ pub pairwise_back : {A : Type 0} (R : A → A → Type 0) (xs ys : List A) → P
 pairwise_back R [] ys h = h
 pairwise_back R (x ∷ xs) ys h = pairwise_back R xs ys h.1
 
-pub pairwise_join : {A : Type 0} (R : A → A → Type 0) (xs ys : List A) → Pairwise R xs → Pairwise R ys → All (λ x. All (R x) ys) xs → Pairwise R (xs ++ ys)
+pub pairwise_join : {A : Type 0} (R : A → A → Type 0) (xs ys : List A) → Pairwise R xs → Pairwise R ys → AllByRecursion (λ x. AllByRecursion (R x) ys) xs → Pairwise R (xs ++ ys)
 pairwise_join R [] ys h k a = k
 pairwise_join R (x ∷ xs) ys h k a = (All-append (R x) xs ys h.0 a.0, pairwise_join R xs ys h.1 k a.1)
 
@@ -46,7 +46,7 @@ sorted_all [] = perm_refl []
 sorted_all (r ∷ rs) = then (keep r (sorted_all rs)) (insert_perm r (sorted_rows rs))
 
 -- in order, where no row stands twice
-pub insert_rises : (r : Row) (qs : List Row) → Rising qs → All (λ q. r ≡ q → ⊥) qs → Rising (insert_row r qs)
+pub insert_rises : (r : Row) (qs : List Row) → Rising qs → AllByRecursion (λ q. r ≡ q → ⊥) qs → Rising (insert_row r qs)
 unfolding insert_row
 insert_rises r [] h d = (tt, tt)
 insert_rises r (q ∷ qs) h d =
@@ -65,7 +65,7 @@ sorted_rises [] d = tt
 sorted_rises (r ∷ rs) d = insert_rises r (sorted_rows rs) (sorted_rises rs d.1) (perm_all (λ q. r ≡ q → ⊥) (sorted_all rs) d.0)
 
 -- before what is less than none of them
-pub insert_first : (r : Row) (qs : List Row) → All (λ q. row_less q r ≡ false) qs → insert_row r qs ≡ r ∷ qs
+pub insert_first : (r : Row) (qs : List Row) → AllByRecursion (λ q. row_less q r ≡ false) qs → insert_row r qs ≡ r ∷ qs
 unfolding insert_row
 insert_first r [] h = refl
 insert_first r (q ∷ qs) h = ap (λ b. pick b (q ∷ insert_row r qs) (r ∷ q ∷ qs)) h.0

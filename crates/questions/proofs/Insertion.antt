@@ -1,6 +1,6 @@
 -- Laws of putting a hit into a list of hits: where it goes, that the first so many need no others, and that a list in order stays in order.
 use Rattle.std.proofs.Common.{◌≡◌, ℕ, zero, suc, ◌-◌, ◌<◌, ◌≤◌, true, false, ◌⊎◌, List, [], ◌∷◌, length, get_or, take, sym, refl, ap, ◌∙◌, subst, ⊎_elim, arith}
-use Rattle.std.specs.List.{insert, AllByRecursion as All}
+use Rattle.std.specs.List.{insert, AllByRecursion}
 use Rattle.std.proofs.lemmas.List.{take-take}
 use Rattle.std.proofs.ByRecursion.{All-weaker, All-take, All-get_or}
 use Rattle.std.proofs.lemmas.Bool.Decides.{nat_tests}
@@ -41,12 +41,12 @@ put_in_place (suc i) h (g ∷ gs) le before after =
 -- hits of which no later one is better than an earlier one
 abbrev pub Falling : List Hit → Type 0
 Falling [] = Unit {0}
-Falling (g ∷ gs) = All (λ x. better x g ≡ false) gs × Falling gs
+Falling (g ∷ gs) = AllByRecursion (λ x. better x g ≡ false) gs × Falling gs
 
-all_put_in : (P : Hit → Type 0) (h : Hit) (hs : List Hit) → P h → All P hs → All P (put_in h hs)
+all_put_in : (P : Hit → Type 0) (h : Hit) (hs : List Hit) → P h → AllByRecursion P hs → AllByRecursion P (put_in h hs)
 unfolding put_in
 all_put_in P h [] p a = (p, tt)
-all_put_in P h (g ∷ gs) p a = elim (better h g) as (λ b. All P (pick b (h ∷ g ∷ gs) (g ∷ put_in h gs))) [ true ↦ (p, a) | false ↦ (a.0, all_put_in P h gs p a.1) ]
+all_put_in P h (g ∷ gs) p a = elim (better h g) as (λ b. AllByRecursion P (pick b (h ∷ g ∷ gs) (g ∷ put_in h gs))) [ true ↦ (p, a) | false ↦ (a.0, all_put_in P h gs p a.1) ]
 
 falling_put_in : (h : Hit) (hs : List Hit) → Falling hs → Falling (put_in h hs)
 unfolding put_in
@@ -68,7 +68,7 @@ falling_take (suc k) [] f = tt
 falling_take (suc k) (g ∷ gs) f = (All-take (λ x. better x g ≡ false) k gs f.0, falling_take k gs f.1)
 
 -- what no other is better than goes first, or is the same as the first
-put_first : (g : Hit) (hs : List Hit) → All (λ x. better x g ≡ false) hs → put_in g hs ≡ g ∷ hs
+put_first : (g : Hit) (hs : List Hit) → AllByRecursion (λ x. better x g ≡ false) hs → put_in g hs ≡ g ∷ hs
 unfolding put_in
 put_first g [] a = refl
 put_first g (h ∷ hs) a =

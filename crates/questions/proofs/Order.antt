@@ -3,7 +3,7 @@ use Rattle.std.proofs.Common.{◌≡◌, suc, ◌<◌, true, false, ◌⊎◌, L
 use borrow.Author.Tests.{both_ways}
 use Rattle.std.proofs.lemmas.Bool.{cases_order, cases_Bool}
 use Rattle.std.proofs.lemmas.Bool.Decides.{nat_tests}
-use Rattle.std.specs.List.{AllByRecursion as All}
+use Rattle.std.specs.List.{AllByRecursion}
 use Rattle.std.proofs.ByRecursion.{All-weaker}
 use Rattle.pages.specs.Lists.{pick}
 use Rattle.pages.proofs.Perm.{Perm, none, keep, swap, then, In, perm_refl, perm_length, perm_all}
@@ -138,10 +138,10 @@ Sorted hs = Pairwise (λ a b. better a b ≡ true) hs
 pub different_names : (hs : List Hit) → Pairwise (λ a b. a.doc ≡ b.doc → ⊥) hs → Different hs
 different_names hs h = pairwise_weaker _ (λ a b. a ≡ b → ⊥) (λ a b n q. n (ap (λ x. x.doc) q)) hs h
 
-all_better : (a b : Hit) (hs : List Hit) → better a b ≡ true → All (λ c. better b c ≡ true) hs → All (λ c. better a c ≡ true) hs
+all_better : (a b : Hit) (hs : List Hit) → better a b ≡ true → AllByRecursion (λ c. better b c ≡ true) hs → AllByRecursion (λ c. better a c ≡ true) hs
 all_better a b hs h = All-weaker (λ c. better b c ≡ true) (λ c. better a c ≡ true) (λ c k. better_transitive a b c h k) hs
 
-pub put_in_sorted : (h : Hit) (hs : List Hit) → All (λ g. h ≡ g → ⊥) hs → Sorted hs → Sorted (put_in h hs)
+pub put_in_sorted : (h : Hit) (hs : List Hit) → AllByRecursion (λ g. h ≡ g → ⊥) hs → Sorted hs → Sorted (put_in h hs)
 unfolding put_in
 put_in_sorted h [] n s = (tt, tt)
 put_in_sorted h (g ∷ gs) n s =
@@ -160,7 +160,7 @@ pub sorted_hits_same : (hs ks : List Hit) → Sorted hs → Sorted ks → ((h : 
 sorted_hits_same = sorted_same (λ a b. better a b ≡ true) better_never_both
 
 -- putting in what is better than all, and putting in order what is sorted, changes nothing
-pub put_in_front : (h : Hit) (hs : List Hit) → All (λ g. better h g ≡ true) hs → put_in h hs ≡ h ∷ hs
+pub put_in_front : (h : Hit) (hs : List Hit) → AllByRecursion (λ g. better h g ≡ true) hs → put_in h hs ≡ h ∷ hs
 unfolding put_in
 put_in_front h [] a = refl
 put_in_front h (g ∷ gs) a = put_in_first h g gs a.0

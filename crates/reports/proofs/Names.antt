@@ -2,7 +2,7 @@
 -- Assumes nothing.
 use Rattle.std.proofs.Common.{◌≡◌, ℕ, ◌<◌, Bool, true, false, not, eqb, ltb, List, [], ◌∷◌, sym, refl, subst, ⊎_elim, arith, ltb-false, ltb-true, ne_eqb}
 use borrow.Author.Tests.{not-true, eqb-false}
-use Rattle.std.specs.List.{AllByRecursion as All}
+use Rattle.std.specs.List.{AllByRecursion}
 use Rattle.std.proofs.ByRecursion.{All-weaker}
 use Rattle.std.proofs.lemmas.Bool.{and_parts, and_from, cases_Bool, not_from_false}
 use Rattle.pages.specs.Lists.{pick, any, none_of}
@@ -16,13 +16,13 @@ use Rattle.reports.specs.Plain.{Plain, Turn, others, named, put_doc, turn, after
 use Rattle.reports.specs.Promise.{distinct}
 
 -- distinct names, as a test and as a fact
-names_apart : (d : Doc) (ds : List Doc) → any (λ c. eqb c.name d.name) ds ≡ false → All (λ c. d.name ≡ c.name → ⊥) ds
+names_apart : (d : Doc) (ds : List Doc) → any (λ c. eqb c.name d.name) ds ≡ false → AllByRecursion (λ c. d.name ≡ c.name → ⊥) ds
 names_apart d [] h = tt
 names_apart d (c ∷ cs) h =
     let e = or_false (eqb c.name d.name) (any (λ b. eqb b.name d.name) cs) h in
     (λ q. eqb-false c.name d.name e.0 (sym q), names_apart d cs e.1)
 
-apart_names : (d : Doc) (ds : List Doc) → All (λ c. d.name ≡ c.name → ⊥) ds → any (λ c. eqb c.name d.name) ds ≡ false
+apart_names : (d : Doc) (ds : List Doc) → AllByRecursion (λ c. d.name ≡ c.name → ⊥) ds → any (λ c. eqb c.name d.name) ds ≡ false
 apart_names d [] h = refl
 apart_names d (c ∷ cs) h = rw (ne_eqb c.name d.name (λ q. h.0 (sym q))) (apart_names d cs h.1)
 
@@ -60,7 +60,7 @@ put_doc_perm d (c ∷ cs) =
       | false ↦ then (swap d c cs) (keep c (put_doc_perm d cs))
     ]
 
-pub put_doc_rises : (d : Doc) (ds : List Doc) → All (λ c. d.name ≡ c.name → ⊥) ds → NamesRise ds → NamesRise (put_doc d ds)
+pub put_doc_rises : (d : Doc) (ds : List Doc) → AllByRecursion (λ c. d.name ≡ c.name → ⊥) ds → NamesRise ds → NamesRise (put_doc d ds)
 unfolding put_doc
 put_doc_rises d [] n h = (tt, tt)
 put_doc_rises d (c ∷ cs) n h =
@@ -76,7 +76,7 @@ put_doc_rises d (c ∷ cs) n h =
     (cases_Bool (ltb d.name c.name))
 
 -- the others of a name have other names, and rise if all did
-pub others_apart : (n : ℕ) (ds : List Doc) → All (λ c. n ≡ c.name → ⊥) (others n ds)
+pub others_apart : (n : ℕ) (ds : List Doc) → AllByRecursion (λ c. n ≡ c.name → ⊥) (others n ds)
 others_apart n ds =
     All-weaker (λ c. not (eqb c.name n) ≡ true) (λ c. n ≡ c.name → ⊥) (λ c h q. eqb-false c.name n (not-true _ h) (sym q)) (others n ds)
     (those_pass (λ c. not (eqb c.name n)) ds)

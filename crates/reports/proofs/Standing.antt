@@ -1,6 +1,6 @@
 -- What stands, with power and without it: the head that counts, the roots that it and the registers name, and what these hold. Assumes nothing.
 use Rattle.std.proofs.Common.{◌≡◌, ℕ, suc, ◌+◌, ◌<◌, true, ltb, List, [], ◌∷◌, ◌++◌, length, sym, refl, ◌∙◌, subst, arith, lt-ltb}
-use Rattle.std.specs.List.{AllByRecursion as All}
+use Rattle.std.specs.List.{AllByRecursion}
 use Rattle.std.proofs.lemmas.Bool.{and_from}
 use Rattle.pages.specs.Lists.{every}
 use Rattle.pages.specs.Device.{Device, Page, Write, read_page, flushed, stopped, a_page}
@@ -22,8 +22,8 @@ Holds ps r ds = (r ≡ empty_head.root) × (ds ≡ [])
 -- a device of so many pages, all of them pages, and so is what waits
 pub record Sound (size : ℕ) (d : Device) : Type 0 where
   pub size_is : length d.pages ≡ size
-  pub pages_whole : All (λ p. a_page p ≡ true) d.pages
-  pub waiting_whole : All (λ w. a_page w.page ≡ true) d.queue
+  pub pages_whole : AllByRecursion (λ p. a_page p ≡ true) d.pages
+  pub waiting_whole : AllByRecursion (λ w. a_page w.page ≡ true) d.queue
 
 -- a head counts and can be followed so many times, and its root holds documents
 pub record Counts (ps : List Page) (n k : ℕ) (h : Head) (ds : List Doc) : Type 0 where
@@ -73,7 +73,7 @@ sound_queued size d k p q a h =
     record {
       size_is = h.size_is;
       pages_whole = h.pages_whole;
-      waiting_whole = subst (λ (ws : List Write). All (λ w. a_page w.page ≡ true) (ws ++ record { at = k; page = p } ∷ [])) (sym q) (a, tt);
+      waiting_whole = subst (λ (ws : List Write). AllByRecursion (λ w. a_page w.page ≡ true) (ws ++ record { at = k; page = p } ∷ [])) (sym q) (a, tt);
     }
 
 pub sound_read : (size : ℕ) (d : Device) (k : ℕ) → Sound size d → k < size → a_page (read_page d k) ≡ true

@@ -1,7 +1,7 @@
 -- Four reports, and what is found in them: one table of questions and hits. Assumes nothing: these are definitions.
 use Rattle.std.specs.Prelude.{◌≡◌, ℕ, List, [], ◌∷◌, codes}
 use Prim.Native.String.{String}
-use Rattle.std.specs.List.{AllByRecursion as All}
+use Rattle.std.specs.List.{AllByRecursion}
 use Rattle.documents.specs.Document.{Doc}
 use Rattle.questions.specs.Query.{Query, word, phrase, near, both, but}
 use Rattle.questions.specs.Order.{Hit, found}
@@ -38,4 +38,4 @@ examples =
     ∷ []
 
 unfoldable pub ExamplesHold : Type 0
-ExamplesHold = All (λ e. found four_reports e.question ≡ e.hits) examples
+ExamplesHold = AllByRecursion (λ e. found four_reports e.question ≡ e.hits) examples

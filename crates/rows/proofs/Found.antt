@@ -1,6 +1,6 @@
 -- Laws of the search for the first row whose key is not earlier than a key. Assumes nothing.
 use Rattle.std.proofs.Common.{◌≡◌, ℕ, zero, suc, ◌+◌, ◌-◌, ◌*◌, ◌^◌, ◌<◌, ◌≤◌, Bool, true, false, leb, List, [], ◌∷◌, ◌++◌, length, get_or, take, drop, sym, refl, ap, ◌∙◌, subst, ⊎_elim, pow-suc, arith, length-append}
-use Rattle.std.specs.List.{AllByRecursion as All}
+use Rattle.std.specs.List.{AllByRecursion}
 use Rattle.std.proofs.lemmas.List.{take-append-drop, length-take-le, drop_more, get_or_at, nil_from_length}
 use Rattle.std.proofs.ByRecursion.{All-weaker, All-get_or}
 use Rattle.std.proofs.lemmas.Bool.{cases_Bool, cases_lt, true≢false, both_ways, lt-ltb, le-ltb, leb-true, leb-false}
@@ -22,11 +22,11 @@ use Rattle.rows.proofs.Read.{row_stands, rows_at_least}
 use Rattle.rows.proofs.Sight.{page_starts, reads, goes_on}
 
 -- parts of what holds of all, and of pairs
-pub all_front : {A : Type 0} (P : A → Type 0) (xs ys : List A) → All P (xs ++ ys) → All P xs
+pub all_front : {A : Type 0} (P : A → Type 0) (xs ys : List A) → AllByRecursion P (xs ++ ys) → AllByRecursion P xs
 all_front P [] ys h = tt
 all_front P (x ∷ xs) ys h = (h.0, all_front P xs ys h.1)
 
-pub all_back : {A : Type 0} (P : A → Type 0) (xs ys : List A) → All P (xs ++ ys) → All P ys
+pub all_back : {A : Type 0} (P : A → Type 0) (xs ys : List A) → AllByRecursion P (xs ++ ys) → AllByRecursion P ys
 all_back P [] ys h = h
 all_back P (x ∷ xs) ys h = all_back P xs ys h.1
 
@@ -35,7 +35,7 @@ pairwise_back R [] ys h = h
 pairwise_back R (x ∷ xs) ys h = pairwise_back R xs ys h.1
 
 -- each of the first part stands in the relation to the first of the second
-pub pairwise_across : {A : Type 0} (R : A → A → Type 0) (xs : List A) (y : A) (ys : List A) → Pairwise R (xs ++ y ∷ ys) → All (λ x. R x y) xs
+pub pairwise_across : {A : Type 0} (R : A → A → Type 0) (xs : List A) (y : A) (ys : List A) → Pairwise R (xs ++ y ∷ ys) → AllByRecursion (λ x. R x y) xs
 pairwise_across R [] y ys h = tt
 pairwise_across R (x ∷ xs) y ys h = ((all_back (R x) xs (y ∷ ys) h.0).0, pairwise_across R xs y ys h.1)
 
@@ -45,7 +45,7 @@ key_sinks k a b l e =
     ⊎_elim (λ h. earlier_transitive a.key b.key k h e) (λ h. subst (λ (x : List ℕ). earlier x k ≡ true) (sym h.0) e) (less_parts a b l)
 
 -- WHAT IS MEANT by the rows from a key on
-pub from_past : (k : List ℕ) (xs ys : List Row) → All (λ r. earlier r.key k ≡ true) xs → from_key k (xs ++ ys) ≡ from_key k ys
+pub from_past : (k : List ℕ) (xs ys : List Row) → AllByRecursion (λ r. earlier r.key k ≡ true) xs → from_key k (xs ++ ys) ≡ from_key k ys
 from_past k [] ys h = refl
 from_past k (x ∷ xs) ys h = simp h.0 (from_past k xs ys h.1)
 
@@ -53,7 +53,7 @@ pub from_here : (k : List ℕ) (rs : List Row) → first_before k rs ≡ false �
 from_here k [] h = refl
 from_here k (r ∷ rs) h = simp h
 
-none_earlier : (k : List ℕ) (r : Row) (rs : List Row) → Rising (r ∷ rs) → earlier r.key k ≡ false → All (λ q. earlier q.key k ≡ false) (r ∷ rs)
+none_earlier : (k : List ℕ) (r : Row) (rs : List Row) → Rising (r ∷ rs) → earlier r.key k ≡ false → AllByRecursion (λ q. earlier q.key k ≡ false) (r ∷ rs)
 none_earlier k r rs h n = (
   n,
   All-weaker _ (λ (q : Row). earlier q.key k ≡ false)
@@ -61,7 +61,7 @@ none_earlier k r rs h n = (
 )
 
 abbrev Meant : List ℕ → List Row → List Row → Type 0
-Meant k rs from = (before : List Row) × (rs ≡ before ++ from) × All (λ r. earlier r.key k ≡ true) before × All (λ r. earlier r.key k ≡ false) from
+Meant k rs from = (before : List Row) × (rs ≡ before ++ from) × AllByRecursion (λ r. earlier r.key k ≡ true) before × AllByRecursion (λ r. earlier r.key k ≡ false) from
 
 pub from_meant : (k : List ℕ) (rs : List Row) → Rising rs → Meant k rs (from_key k rs)
 from_meant k [] h = ([], refl, tt, tt)
@@ -82,12 +82,12 @@ first_page : (k : List ℕ) (rs : List Row) → PageRows rs → key_before k (ro
 first_page k [] p = absurd (true≢false p.some)
 first_page k (r ∷ rs) p = ap (key_before k) (row_stands [] r rs p.fit.0 p.room)
 
-all_first : (P : Row → Type 0) (cut : List (List Row)) (j : ℕ) (q : Row) (qs : List Row) → get_or cut j [] ≡ q ∷ qs → All P (together cut) → P q
+all_first : (P : Row → Type 0) (cut : List (List Row)) (j : ℕ) (q : Row) (qs : List Row) → get_or cut j [] ≡ q ∷ qs → AllByRecursion P (together cut) → P q
 all_first P [] j q qs e h = let z : ◌≡◌ {A = ℕ} 0 1 = cc in absurd (omega arith)
-all_first P (p ∷ cut) zero q qs e h = (subst (λ (xs : List Row). All P (xs ++ together cut)) e h).0
+all_first P (p ∷ cut) zero q qs e h = (subst (λ (xs : List Row). AllByRecursion P (xs ++ together cut)) e h).0
 all_first P (p ∷ cut) (suc j) q qs e h = all_first P cut j q qs e (all_back P p (together cut) h)
 
-pub firsts_rise : (k : List ℕ) (cut : List (List Row)) → All PageRows cut → Rising (together cut) → (i j : ℕ) → i ≤ j → first_before k (get_or cut j []) ≡ true → i < length cut →
+pub firsts_rise : (k : List ℕ) (cut : List (List Row)) → AllByRecursion PageRows cut → Rising (together cut) → (i j : ℕ) → i ≤ j → first_before k (get_or cut j []) ≡ true → i < length cut →
     first_before k (get_or cut i []) ≡ true
 firsts_rise k [] w h i j l f m = absurd (omega arith)
 firsts_rise k (p ∷ cut) w h zero zero l f m = f
@@ -139,25 +139,25 @@ search_narrows pages cut k s on h b l =
     (cases_Bool (key_before k (row_at (pages m) 2)))
 
 -- WHERE THE STEPS END
-first_together : (k : List ℕ) (cut : List (List Row)) → All PageRows cut → first_before k (together cut) ≡ first_before k (get_or cut 0 [])
+first_together : (k : List ℕ) (cut : List (List Row)) → AllByRecursion PageRows cut → first_before k (together cut) ≡ first_before k (get_or cut 0 [])
 first_together k [] w = refl
 first_together k ([] ∷ cut) w = absurd (true≢false w.0.some)
 first_together k ((r ∷ rs) ∷ cut) w = refl
 
-pub search_at_first : (cut : List (List Row)) (k : List ℕ) (s : Search) → All PageRows cut → Between cut k s → s.lo ≡ 0 → s.hi ≡ 0 → Sees cut (page_start 0) (from_key k (together cut))
+pub search_at_first : (cut : List (List Row)) (k : List ℕ) (s : Search) → AllByRecursion PageRows cut → Between cut k s → s.lo ≡ 0 → s.hi ≡ 0 → Sees cut (page_start 0) (from_key k (together cut))
 search_at_first cut k s w b lo hi =
     let none : first_before k (get_or cut 0 []) ≡ false =
     ⊎_elim (λ h. b.above 0 (omega arith) h) (λ h. ap (λ xs. first_before k (get_or xs 0 [])) (nil_from_length cut (omega arith))) (cases_lt 0 (length cut)) in
     subst (Sees cut (page_start 0)) (sym (from_here k (together cut) (first_together k cut w ∙ none))) (page_starts [] cut w)
 
-pub search_on_page : (cut : List (List Row)) (k : List ℕ) (s : Search) (m : ℕ) → All PageRows cut → Rising (together cut) → Between cut k s → s.lo ≡ suc m →
+pub search_on_page : (cut : List (List Row)) (k : List ℕ) (s : Search) (m : ℕ) → AllByRecursion PageRows cut → Rising (together cut) → Between cut k s → s.lo ≡ suc m →
     (rest : List Row) × Sees cut (page_start m) rest × (from_key k (together cut) ≡ from_key k rest)
 search_on_page cut k s m w h b e =
     let in_cut : m < length cut = let i = b.inside in let o = b.ordered in omega arith in
     let front = take m cut in
     let back = drop m cut in
     let whole : front ++ back ≡ cut = take-append-drop m cut in
-    let sees = page_starts front back (subst (All PageRows) (sym whole) w) in
+    let sees = page_starts front back (subst (AllByRecursion PageRows) (sym whole) w) in
     let rows : together cut ≡ together front ++ together back = ap together (sym whole) ∙ flat_append (λ (rs : List Row). rs) front back in
     let q = first_of k (get_or cut m []) (b.below m (omega arith)) in
     let head : together back ≡ q.0 ∷ q.1 ++ together (drop (m + 1) cut) = ap together (drop_more cut m [] in_cut) ∙ ap (λ xs. xs ++ together (drop (m + 1) cut)) q.2 in

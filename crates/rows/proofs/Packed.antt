@@ -1,6 +1,6 @@
 -- Laws of packing. Assumes nothing.
 use Rattle.std.proofs.Common.{◌≡◌, ℕ, zero, suc, ◌+◌, ◌*◌, ◌/◌, ◌<◌, ◌≤◌, List, [], ◌∷◌, ◌++◌, length, get_or, sym, refl, ap, ◌∙◌, subst, ⊎_elim, append_assoc, arith}
-use Rattle.std.specs.List.{AllByRecursion as All}
+use Rattle.std.specs.List.{AllByRecursion}
 use Rattle.std.proofs.ByRecursion.{All-push}
 use Rattle.std.proofs.lemmas.Bool.{cases_lt, le-leb, lt-leb}
 use Rattle.pages.proofs.Folds.{added_up_append}
@@ -45,17 +45,17 @@ pack_in_order =
     (λ begun r rs ps h e. ap (λ xs. begun ++ xs) e)
 
 -- each page has rows, and they fit
-closed_fits : (begun : List Row) → All RowFits begun → rows_size begun ≤ 502 → All PageRows (closed begun)
+closed_fits : (begun : List Row) → AllByRecursion RowFits begun → rows_size begun ≤ 502 → AllByRecursion PageRows (closed begun)
 closed_fits [] f h = tt
 closed_fits (r ∷ rs) f h = (record { some = refl; fit = f; room = h }, tt)
 
-begun_page : (begun : List Row) (r : Row) → RowFits r → All RowFits begun → rows_size begun ≤ 502 → 502 < rows_size begun + row_size r → PageRows begun
+begun_page : (begun : List Row) (r : Row) → RowFits r → AllByRecursion RowFits begun → rows_size begun ≤ 502 → 502 < rows_size begun + row_size r → PageRows begun
 begun_page [] r g f h m = let s = g.short in absurd (omega arith)
 begun_page (q ∷ begun) r g f h m = record { some = refl; fit = f; room = h }
 
-pack_fits : (begun rs : List Row) → All RowFits begun → All RowFits rs → rows_size begun ≤ 502 → All PageRows (pack_from begun rs)
+pack_fits : (begun rs : List Row) → AllByRecursion RowFits begun → AllByRecursion RowFits rs → rows_size begun ≤ 502 → AllByRecursion PageRows (pack_from begun rs)
 pack_fits =
-    by_rows (λ begun rs ps. All RowFits begun → All RowFits rs → rows_size begun ≤ 502 → All PageRows ps)
+    by_rows (λ begun rs ps. AllByRecursion RowFits begun → AllByRecursion RowFits rs → rows_size begun ≤ 502 → AllByRecursion PageRows ps)
     (λ begun f g h. closed_fits begun f h)
     (λ begun r rs ps fits ih f g h. ih (All-push RowFits begun r f g.0) g.1 (let e = size_push begun r in omega arith))
     (λ begun r rs ps more ih f g h. (begun_page begun r g.0 f h more, ih (g.0, tt) g.1 (let s = g.0.short in omega arith)))
@@ -74,9 +74,9 @@ full_closed : (begun : List Row) → Full (closed begun)
 full_closed [] = tt
 full_closed (r ∷ rs) = tt
 
-pack_full : (begun rs : List Row) → All RowFits rs → Full (pack_from begun rs)
+pack_full : (begun rs : List Row) → AllByRecursion RowFits rs → Full (pack_from begun rs)
 pack_full =
-    by_rows (λ begun rs ps. All RowFits rs → Full ps) (λ begun g. full_closed begun) (λ begun r rs ps fits ih g. ih g.1)
+    by_rows (λ begun rs ps. AllByRecursion RowFits rs → Full ps) (λ begun g. full_closed begun) (λ begun r rs ps fits ih g. ih g.1)
     (λ begun r rs ps more ih g. full_more begun ps (let s = g.0.short in omega arith) (ih g.1))
 
 full_at : (ps : List (List Row)) → Full ps → (i : ℕ) → suc i < length ps → 432 ≤ rows_size (get_or ps i [])
@@ -95,7 +95,7 @@ full_size (p ∷ q ∷ ps) f =
     let d = f.0 in
     omega arith
 
-pub pack_few : (rs : List Row) → All RowFits rs → length (pack rs) ≤ rows_size rs / 431 + 1
+pub pack_few : (rs : List Row) → AllByRecursion RowFits rs → length (pack rs) ≤ rows_size rs / 431 + 1
 pack_few rs g =
     let a = full_size (pack rs) (pack_full [] rs g) in
     let b : rows_size (together (pack rs)) ≡ rows_size rs = ap rows_size (pack_in_order [] rs) in

@@ -1,6 +1,6 @@
 -- Laws of rows on a page: what was put there is read, and nothing else. Assumes nothing.
 use Rattle.std.proofs.Common.{◌≡◌, ℕ, zero, suc, ◌+◌, ◌-◌, ◌*◌, ◌%◌, ◌^◌, ◌<◌, ◌≤◌, Bool, true, false, ◌&&◌, ltb, leb, List, [], ◌∷◌, ◌++◌, length, get_or, take, drop, Some, None, Option, sym, refl, ap, ◌∙◌, subst, ⊎_elim, append_assoc, append-nil, arith, length-append, length-drop, length-take}
-use Rattle.std.specs.List.{AllByRecursion as All}
+use Rattle.std.specs.List.{AllByRecursion}
 use Rattle.std.proofs.lemmas.Bool.{cases_Bool, and_parts, and_from, and_left, and_right, le-leb, lt-leb, leb-true, lt-ltb, ltb-true, eq-eqb}
 use Rattle.std.proofs.lemmas.List.{take_at, drop_at, drop-drop, drop_all, drop_more, drop-append-le, take-append-drop, take-take, drop-take, length-take-le}
 use borrow.Rule.Slice.PartMut.{put_mid}
@@ -212,11 +212,11 @@ row_is_bytes r f =
     and_from _ _ (lt-ltb (length r.key) 256 (omega (arith, f.short)))
     (every_join (λ c. ltb c 256) r.key _ f.bytes (in_bytes_bytes 4 r.doc _ (in_bytes_bytes 2 r.place [] refl)))
 
-rows_are_bytes : (rs : List Row) → All RowFits rs → all_bytes (flat row_bytes rs) ≡ true
+rows_are_bytes : (rs : List Row) → AllByRecursion RowFits rs → all_bytes (flat row_bytes rs) ≡ true
 rows_are_bytes [] f = refl
 rows_are_bytes (r ∷ rs) f = every_join (λ c. ltb c 256) (row_bytes r) (flat row_bytes rs) (row_is_bytes r f.0) (rows_are_bytes rs f.1)
 
-pub page_is_a_page : (rs : List Row) → All RowFits rs → rows_size rs ≤ 502 → a_page (page_of rs) ≡ true
+pub page_is_a_page : (rs : List Row) → AllByRecursion RowFits rs → rows_size rs ≤ 502 → a_page (page_of rs) ≡ true
 page_is_a_page rs f h =
     and_from _ _ (eq-eqb (length (page_of rs)) 512 (length_page rs h))
     (subst (λ (p : Page). all_bytes p ≡ true) (sym (page_holds rs h).is)
@@ -234,7 +234,7 @@ row_stands before r after f h =
     ∙ ap (λ xs. stand (2 + rows_size before) (row_in xs)) (bytes_from before r after)
     ∙ ap (stand (2 + rows_size before)) (row_in_bytes r (flat row_bytes after) f)
 
-pub all_last : {A : Type 0} (P : A → Type 0) (before : List A) (r : A) (after : List A) → All P (before ++ r ∷ after) → P r
+pub all_last : {A : Type 0} (P : A → Type 0) (before : List A) (r : A) (after : List A) → AllByRecursion P (before ++ r ∷ after) → P r
 all_last P [] r after h = h.0
 all_last P (x ∷ before) r after h = all_last P before r after h.1
 
@@ -246,7 +246,7 @@ unfolding row_at row_in
 none_stands p at h = ap (λ xs. stand at (row_in xs)) (drop_all at (take (rows_end p) p) (simp length-take (omega arith)))
 
 -- what was put there is read back
-rows_back : (n : ℕ) (rs : List Row) → All RowFits rs → length rs ≤ n → rows_in n (flat row_bytes rs) ≡ rs
+rows_back : (n : ℕ) (rs : List Row) → AllByRecursion RowFits rs → length rs ≤ n → rows_in n (flat row_bytes rs) ≡ rs
 unfolding rows_in row_in
 rows_back zero [] f h = refl
 rows_back zero (r ∷ rs) f h = absurd (omega arith)
@@ -260,7 +260,7 @@ pub rows_at_least : (rs : List Row) → 7 * length rs ≤ rows_size rs
 rows_at_least [] = omega arith
 rows_at_least (r ∷ rs) = let e = rows_at_least rs in omega arith
 
-pub page_read_back : (rs : List Row) → All RowFits rs → rows_size rs ≤ 502 → rows_of (page_of rs) ≡ rs
+pub page_read_back : (rs : List Row) → AllByRecursion RowFits rs → rows_size rs ≤ 502 → rows_of (page_of rs) ≡ rs
 unfolding rows_of
 page_read_back rs f h = ap (rows_in 512) (held_from _ _ _ (page_holds rs h) 0) ∙ rows_back 512 rs f (let e = rows_at_least rs in omega arith)
 

@@ -1,6 +1,6 @@
 -- Laws of a cursor: it sees a list. Assumes nothing.
 use Rattle.std.proofs.Common.{◌≡◌, ℕ, suc, ◌+◌, ◌<◌, ◌≤◌, List, [], ◌∷◌, ◌++◌, length, get_or, Some, sym, refl, ap, ◌∙◌, subst, inl, inr, ⊎_elim, append_assoc, append-nil, arith, length-append}
-use Rattle.std.specs.List.{AllByRecursion as All}
+use Rattle.std.specs.List.{AllByRecursion}
 use Rattle.std.proofs.lemmas.List.{get_or_at}
 use Rattle.std.proofs.lemmas.Bool.{true≢false, lt-ltb, le-ltb}
 use Rattle.pages.specs.Device.{Page}
@@ -17,7 +17,7 @@ starts_by before [] after p = absurd (true≢false p.some)
 starts_by before (r ∷ rs) after p =
     inl (record { before = before; done = []; row = r; left = rs; after = after; cut_is = refl; page_is = refl; at_is = refl; rows_are = refl })
 
-pub page_starts : (before after : List (List Row)) → All PageRows (before ++ after) → Sees (before ++ after) (page_start (length before)) (together after)
+pub page_starts : (before after : List (List Row)) → AllByRecursion PageRows (before ++ after) → Sees (before ++ after) (page_start (length before)) (together after)
 page_starts before [] h = inr (record { page_is = ap length (sym (append-nil before)); at_is = refl; no_rows = refl })
 page_starts before (rs ∷ after) h = starts_by before rs after (all_last PageRows before rs after h)
 
@@ -45,8 +45,8 @@ module _ (pages : ℕ → Page) (cut : List (List Row)) (c : Cursor) (r : Row) (
     rows_here : get_or cut c.page [] ≡ here
     rows_here = (λ i. get_or (o.cut_is i) (o.page_is i) []) ∙ get_or_at o.before here o.after [] (length o.before) refl
 
-    whole : All PageRows (o.before ++ here ∷ o.after)
-    whole = subst (All PageRows) o.cut_is k.whole
+    whole : AllByRecursion PageRows (o.before ++ here ∷ o.after)
+    whole = subst (AllByRecursion PageRows) o.cut_is k.whole
 
     good : PageRows here
     good = all_last PageRows o.before here o.after whole
@@ -79,7 +79,7 @@ module _ (pages : ℕ → Page) (cut : List (List Row)) (c : Cursor) (r : Row) (
         let n : rows_size o.left ≡ 0 = ap rows_size e in
         let p : passed (pages c.page) c next ≡ page_start (suc c.page) = simp (le-ltb next (rows_end (pages c.page)) (let a = end_here in let b = size_here in let d = next_is in omega arith)) in
         let l : suc c.page ≡ length before = let a = o.page_is in let b = length-append o.before (here ∷ []) in omega arith in
-        let s = page_starts before o.after (subst (All PageRows) (sym again) whole) in
+        let s = page_starts before o.after (subst (AllByRecursion PageRows) (sym again) whole) in
         let rest : together o.after ≡ rs = sym (rest_is ∙ ap (λ xs. xs ++ together o.after) e) in
         subst (λ (x : Cursor). Sees cut x rs) (ap page_start (sym l) ∙ sym p)
         (subst (λ (xs : List Row). Sees cut (page_start (length before)) xs) rest

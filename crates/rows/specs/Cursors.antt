@@ -1,6 +1,6 @@
 -- Rows cut into pages, and a cursor on them. Assumes nothing: these are definitions.
 use Rattle.std.specs.Prelude.{◌≡◌, ℕ, suc, ◌+◌, ◌<◌, ◌≤◌, false, ◌⊎◌, List, [], ◌∷◌, ◌++◌, length, nat_lt, slice_index_or}
-use Rattle.std.specs.List.{AllByRecursion as All}
+use Rattle.std.specs.List.{AllByRecursion}
 use Rattle.pages.specs.Lists.{pick, flat, none_of}
 use Rattle.pages.specs.Device.{Page}
 use Rattle.rows.specs.declared.cursor.Cursor.{Cursor}
@@ -9,13 +9,13 @@ use Rattle.rows.specs.Rows.{Row, RowFits, rows_size, page_of, rows_end}
 -- the rows of one page: at least one, and they fit
 pub record PageRows (rs : List Row) : Type 0 where
   pub some : none_of rs ≡ false
-  pub fit : All RowFits rs
+  pub fit : AllByRecursion RowFits rs
   pub room : rows_size rs ≤ 502
 
 -- pages that hold rows cut so, one page for each part
 pub record CutOn (pages : ℕ → Page) (cut : List (List Row)) : Type 0 where
   pub stands : (i : ℕ) → i < length cut → pages i ≡ page_of (slice_index_or cut i [])
-  pub whole : All PageRows cut
+  pub whole : AllByRecursion PageRows cut
 
 abbrev pub together : List (List Row) → List Row
 together cut = flat (λ (rs : List Row). rs) cut
