@@ -43,17 +43,17 @@ Good (Fetch n) = fits (fetch n) ≡ true
 Good Help = Unit {0}
 Good Quit = Unit {0}
 
-abbrev pub Bytes_of : Command → Option (Vec ℕ Global) → Type 0
-Bytes_of c None = ⊥
-Bytes_of c (Some v) = vec_items v ≡ spelled c
+abbrev pub BytesOf : Command → Option (Vec ℕ Global) → Type 0
+BytesOf c None = ⊥
+BytesOf c (Some v) = vec_items v ≡ spelled c
 
 -- the bytes of the command that is asked for
 abbrev pub SpelledSo : Request → Option (Vec ℕ Global) → Type 0
-SpelledSo (Put n t b) o = Bytes_of (put n t.now b.now) o
-SpelledSo (Remove n) o = Bytes_of (remove n) o
-SpelledSo Note o = Bytes_of note o
-SpelledSo (Ask k ws) o = Bytes_of (ask k (all_of (vec_items ws))) o
-SpelledSo (Count ws) o = Bytes_of (how_many (all_of (vec_items ws))) o
-SpelledSo (Fetch n) o = Bytes_of (fetch n) o
+SpelledSo (Put n t b) o = BytesOf (put n t.now b.now) o
+SpelledSo (Remove n) o = BytesOf (remove n) o
+SpelledSo Note o = BytesOf note o
+SpelledSo (Ask k ws) o = BytesOf (ask k (all_of (vec_items ws))) o
+SpelledSo (Count ws) o = BytesOf (how_many (all_of (vec_items ws))) o
+SpelledSo (Fetch n) o = BytesOf (fetch n) o
 SpelledSo Help o = o ≡ None
 SpelledSo Quit o = o ≡ None

@@ -1,7 +1,7 @@
 -- The head of a device: which root stands, with four segments below it. Assumes nothing: these are definitions.
 -- Pages 0 and 1 of a device are head pages. A head page has the head's 21 numbers of eight bytes at byte 0 and once more at byte 256; all other bytes
 -- are 0. A write that a stop tore leaves the first 256 bytes of the new page beside the last 256 of the old one: then the copies differ.
-use Rattle.std.specs.Prelude.{◌≡◌, ℕ, ◌+◌, Bool, true, ◌&&◌, ltb, List, [], ◌∷◌, ◌++◌, length, take, drop, Some, None, Option, ◌==◌, ◌≢◌, nat_lt}
+use Rattle.std.specs.Prelude.{◌≡◌, ℕ, ◌+◌, Bool, true, ◌&&◌, List, [], ◌∷◌, ◌++◌, length, take, drop, Some, None, Option, ◌==◌, ◌≢◌, nat_lt}
 use Rattle.pages.specs.declared.roots.Segment.{Segment}
 use Rattle.pages.specs.declared.roots.Root.{Root}
 use Rattle.pages.specs.declared.roots.Head.{Head}
@@ -26,7 +26,7 @@ head_page h = in_eights (head_numbers h) ++ (zeros 88 ++ (in_eights (head_number
 
 -- each number of it fits in eight bytes
 unfoldable pub fits_eights : Head → Bool
-fits_eights h = every (λ n. ltb n 18446744073709551616) (head_numbers h)
+fits_eights h = every (λ n. nat_lt n 18446744073709551616) (head_numbers h)
 
 -- what stands at a place, read as the parts of a head
 unfoldable pub segment_at : List ℕ → ℕ → Segment

@@ -1,5 +1,5 @@
 -- Reading a question from bytes: what is read, and the bytes after it. Assumes nothing: these are definitions.
-use Rattle.std.specs.Prelude.{◌≡◌, ℕ, zero, suc, Bool, not, ◌&&◌, ltb, List, [], ◌∷◌, length, take, drop, Some, None, Option, ◌==◌, nat_le, nat_lt}
+use Rattle.std.specs.Prelude.{◌≡◌, ℕ, zero, suc, Bool, not, ◌&&◌, List, [], ◌∷◌, length, take, drop, Some, None, Option, ◌==◌, nat_le, nat_lt}
 use Rattle.std.specs.Borrow.{Bor}
 use Rattle.words.specs.Words.{in_word}
 use Rattle.pages.specs.Lists.{pick}
@@ -64,7 +64,7 @@ read_phrase bs = then (read_within 1 16 bs) read_words
 
 -- where one looks: 0, 1 or 2
 unfoldable pub read_field : List ℕ → Read ℕ
-read_field bs = then (read_byte bs) (only (λ f. ltb f 3))
+read_field bs = then (read_byte bs) (only (λ f. nat_lt f 3))
 
 -- where one looks, and what for
 unfoldable pub read_sought : {A : Type 0} → (List ℕ → Read A) → List ℕ → Read (ℕ × A)

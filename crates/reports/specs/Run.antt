@@ -1,6 +1,6 @@
 -- The engine as a machine with a memory, told one thing and doing one act at a time; how it runs beside its pages; and what it is to be right
 -- beside a plain engine. Assumes nothing: these are definitions.
-use Rattle.std.specs.Prelude.{◌≡◌, ℕ, zero, suc, ◌≤◌, Bool, true, false, ◌&&◌, ltb, ◌⊎◌, List, [], ◌∷◌, ◌++◌, length, nat_eq, nat_le, nat_lt}
+use Rattle.std.specs.Prelude.{◌≡◌, ℕ, zero, suc, ◌≤◌, Bool, true, false, ◌&&◌, ◌⊎◌, List, [], ◌∷◌, ◌++◌, length, nat_eq, nat_le, nat_lt}
 use Rattle.pages.specs.Lists.{pick, every}
 use Rattle.pages.specs.Device.{Page, Device, read_page, flushed, stopped, blank, a_page}
 
@@ -119,7 +119,7 @@ new_world pages = record { device = record { pages = blank pages; queue = [] }; 
 
 -- memory is all 0 at the start; it never grows, nor do its numbers beyond 64 bits
 unfoldable pub all_small : List ℕ → Bool
-all_small ms = every (λ m. ltb m 18446744073709551616) ms
+all_small ms = every (λ m. nat_lt m 18446744073709551616) ms
 
 unfoldable pub Steady : Engine → Type 0
 Steady e =

@@ -1,5 +1,5 @@
 -- What a comparison of two rows answers. Assumes nothing: these are definitions.
-use Rattle.std.specs.Prelude.{◌≡◌, ℕ, ◌+◌, ◌≤◌, true, ◌⊎◌, List, length, take, drop, Some, None, Option, slice_index, slice_index_or}
+use Rattle.std.specs.Prelude.{◌≡◌, ℕ, ◌+◌, ◌≤◌, true, ◌⊎◌, List, length, take, drop, Some, None, Option, slice_index}
 use Rattle.std.specs.declared.cmp.Ordering.{Ordering}
 use Rattle.pages.specs.Bytes.{all_bytes}
 use Rattle.pages.specs.Device.{Page}
@@ -19,6 +19,6 @@ StandsCompared a b (Some r) = (s : Stand) × (t : Stand) × (a ≡ Some s) × (b
 -- the numbers from a row on
 pub record Standing (p : Page) (at : ℕ) (xs : List ℕ) : Type 0 where
   pub is : row_at p at ≡ stand at (row_in xs)
-  pub long : slice_index_or xs 0 0 + 7 ≤ length xs
-  pub short : slice_index_or xs 0 0 ≤ 64
+  pub long : slice_index xs 0 + 7 ≤ length xs
+  pub short : slice_index xs 0 ≤ 64
   pub bytes : all_bytes (take (slice_index xs 0 + 6) (drop 1 xs)) ≡ true

@@ -18,7 +18,7 @@ impl Cursor {
     // this one end. If no page has a higher number, it stays.
     pub fn past(self, page: &[u64], next: usize) -> Cursor
         ensures counted { self.page < 18446744073709551615 → result ≡ passed page.now self next }
-        ensures last { 18446744073709551615 ≤ self.page → result ≡ pick (nat_lt next (rows_end page.entry.now)) (record { page = self.page; at = next }) self }
+        ensures last { 18446744073709551615 ≤ self.page → result ≡ pick (nat_lt next (rows_end page.now)) (record { page = self.page; at = next }) self }
     {
         if next < rows_end(page) {
             Cursor {
