@@ -1,0 +1,42 @@
+#!/usr/bin/env python3
+"""Puts the work that is kept in unfinished/ in its place, in a copy of the repository.
+
+usage: python3 tools/take_up.py FOLDER      FOLDER is made: a copy of the crates, with that work in place
+
+Files of unfinished/ whose names end in .rt.txt or .antt.txt go to crates/ without the .txt, the other files of its crates as they are;
+unfinished/crates-listed.txt becomes crates.txt, and the files that unfinished/gone.txt names are taken away. README.md and docs/ there stay where they are.
+"""
+
+import os
+import shutil
+import sys
+
+TOP = os.path.dirname(os.path.dirname(os.path.realpath(__file__)))
+KEPT = os.path.join(TOP, "unfinished")
+
+
+def main():
+    if len(sys.argv) != 2 or os.path.exists(sys.argv[1]):
+        print(__doc__, file=sys.stderr)
+        raise SystemExit(2)
+    to = sys.argv[1]
+    shutil.copytree(os.path.join(TOP, "crates"), os.path.join(to, "crates"), ignore=shutil.ignore_patterns("out"))
+    with open(os.path.join(KEPT, "gone.txt"), encoding="utf-8") as f:
+        for name in f.read().split():
+            os.remove(os.path.join(to, name))
+    for folder, dirs, files in os.walk(KEPT):
+        if folder == KEPT:
+            dirs[:] = [d for d in dirs if d != "docs"]
+            continue
+        for name in files:
+            path = os.path.join(folder, name)
+            place = os.path.relpath(path, KEPT)
+            if place.endswith((".rt.txt", ".antt.txt")):
+                place = place[: -len(".txt")]
+            place = os.path.join(to, "crates", place)
+            os.makedirs(os.path.dirname(place), exist_ok=True)
+            shutil.copy(path, place)
+    shutil.copy(os.path.join(KEPT, "crates-listed.txt"), os.path.join(to, "crates.txt"))
+
+
+main()
