@@ -24,6 +24,9 @@ def main():
     with open(os.path.join(KEPT, "gone.txt"), encoding="utf-8") as f:
         for name in f.read().split():
             os.remove(os.path.join(to, name))
+            # A folder with nothing else in it goes with its file.
+            if not os.listdir(os.path.dirname(os.path.join(to, name))):
+                os.rmdir(os.path.dirname(os.path.join(to, name)))
     for folder, dirs, files in os.walk(KEPT):
         if folder == KEPT:
             dirs[:] = [d for d in dirs if d != "docs"]
