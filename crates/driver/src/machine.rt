@@ -112,7 +112,8 @@ impl<D: Device + Drop> Engine<D> {
     pub fn into_device(self) -> D
         ensures { result ≡ self.device }
     {
-        self.device
+        let Engine { device, .. } = self;
+        device
     }
 
     // Power comes: the engine knows nothing but what is on its pages. It does so many acts at most.

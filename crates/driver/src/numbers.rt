@@ -11,7 +11,8 @@ pub fn number_bytes(n: u64) -> [u8; 8]
 
 // Bytes are below 256, as their type says. A caller learns it here, for a proof that speaks of all of them.
 pub fn hold_bytes(bytes: &[u8]) -> bool
-    ensures { all_bytes bytes.now ≡ true }
+    ensures bytes { all_bytes bytes.now ≡ true }
+    ensures answer { result ≡ all_bytes bytes.now }
 {
     pages::are_bytes(bytes)
 }

@@ -13,7 +13,7 @@ pub returns-in_ok-write-in-Write : goal.returns-in_ok-write-in-Write
 returns-in_ok-write-in-Write g c = record {
   few = omega arith;
   same = (refl, refl);
-  made = λ a out told w h. let said = c.in_ok-write-in-Write.ensures w.device h in acted_write g.D.Device.stands w a out _ _ _ c.copy_from_slice.new.self _ _ _ _ _ c.in-Write.is told said.0 (search rules) said.1 c.hold_bytes.ensures refl refl;
+  made = λ a out told w h. let said = c.in_ok-write-in-Write.ensures w.device h in acted_write g.D.Device.stands w a out _ _ _ c.copy_from_slice.new.self _ _ _ _ _ c.in-Write.is told said.0 (search rules) said.1 c.hold_bytes.ensures.bytes refl refl;
 }
 
 pub returns-in_ok-flush-in-Flush : goal.returns-in_ok-flush-in-Flush
