@@ -47,6 +47,8 @@ def without_comments(text):
 def functions(text):
     """Each function: line, name, signature with clauses, body."""
     for match in re.finditer(r"^( *)(pub(?:\(crate\))? )?fn (\w+)", text, re.M):
+        if re.match(r"[^{]*\(\)\s+ensures [^\n]*\n *\{\}\n", text[match.start():]):
+            continue
         end = text.find("\n" + match.group(1) + "}\n", match.start())
         whole = text[match.start():end]
         brace = re.search(r"\n" + match.group(1) + r"\{\n|\{\n", whole)

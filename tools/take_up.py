@@ -1,18 +1,24 @@
 #!/usr/bin/env python3
 """Puts the work that is kept in unfinished/ in its place, in a copy of the repository.
 
-usage: python3 tools/take_up.py FOLDER      FOLDER is made: a copy of the crates, with that work in place
+usage: python3 tools/take_up.py FOLDER      FOLDER is made: the crates of the commit over which it was written, with that work in place
 
 Files of unfinished/ whose names end in .rt.txt or .antt.txt go to crates/ without the .txt, the other files of its crates as they are;
 unfinished/crates-listed.txt becomes crates.txt, and the files that unfinished/gone.txt names are taken away. README.md and docs/ there stay where they are.
 """
 
+import io
 import os
 import shutil
+import subprocess
 import sys
+import tarfile
 
 TOP = os.path.dirname(os.path.dirname(os.path.realpath(__file__)))
 KEPT = os.path.join(TOP, "unfinished")
+
+# The last commit before the sources took today's forms.
+WRITTEN_OVER = "a3f81b09f70e613e89c5005fee1467e7fe6fee7e"
 
 
 def main():
@@ -20,7 +26,9 @@ def main():
         print(__doc__, file=sys.stderr)
         raise SystemExit(2)
     to = sys.argv[1]
-    shutil.copytree(os.path.join(TOP, "crates"), os.path.join(to, "crates"), ignore=shutil.ignore_patterns("out"))
+    packed = subprocess.run(["git", "-C", TOP, "archive", WRITTEN_OVER, "crates"], capture_output=True, check=True).stdout
+    with tarfile.open(fileobj=io.BytesIO(packed)) as crates:
+        crates.extractall(to)
     with open(os.path.join(KEPT, "gone.txt"), encoding="utf-8") as f:
         for name in f.read().split():
             os.remove(os.path.join(to, name))

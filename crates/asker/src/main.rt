@@ -1,7 +1,7 @@
 // The engine for a person at a keyboard.
 #![tactic(auto)]
 
-use console::{Request, answer, command_bytes, open_engine, read_request, report};
+use console::{Request, answer, command_bytes, exit_code, open_engine, read_request};
 use driver::{Engine, FileDevice, MOST_ACTS};
 use std::io::{BufRead, BufReader, Write};
 use std::process::ExitCode;
@@ -17,13 +17,10 @@ quit                       ends
 A word may begin with title: or body: to be looked for only there.";
 
 fn main(rt: HostRuntime) -> ExitCode {
-    match report(&rt, run(&rt)) {
-        Ok(()) => ExitCode::SUCCESS,
-        // What was wrong is printed by now, and not once more by the runtime.
-        Err(_) => ExitCode::FAILURE,
-    }
+    exit_code(&rt, run(&rt))
 }
 
+// Reads what is typed line by line, until quit or the end, and says each request to the engine.
 fn run(rt: &HostRuntime) -> anyhow::Result<()> {
     let heap = rt.alloc();
     let mut engine = open_engine(rt)?;

@@ -3,8 +3,8 @@ use Rattle.std.specs.Prelude.{◌≡◌, ℕ, ◌+◌, ◌-◌, ◌*◌, ◌/◌
 use Rattle.std.specs.declared.alloc.Global.{Global}
 use Rattle.pages.specs.Lists.{pick, every}
 use Rattle.words.specs.Words.{between}
-use Rattle.console.specs.declared.hex.BadHex.{BadHex}
-use Rattle.console.specs.declared.hex.BadHex.TheVariants.{NotADigit, Odd, NoMemory}
+use Rattle.console.specs.declared.digits.BadHex.{BadHex}
+use Rattle.console.specs.declared.digits.BadHex.TheVariants.{NotADigit, Odd, NoMemory}
 
 -- 0 to 9 and a to f
 abbrev pub digit : ℕ → ℕ

@@ -2,14 +2,14 @@
 #![tactic(auto)]
 
 mod answers;
-mod hex;
+mod digits;
 mod opening;
 mod spelling;
 mod typed;
 
 pub use answers::answer;
-pub use hex::{BadHex, bytes_of_hex, hex_of};
-pub use opening::{open_engine, report};
+pub use digits::{BadHex, bytes_of_hex, hex_of};
+pub use opening::{exit_code, open_engine, report};
 pub use spelling::{
     command_bytes, spell_ask, spell_count, spell_fetch, spell_note, spell_put, spell_remove,
 };

@@ -4,10 +4,7 @@ use std::test::Fail;
 
 fn command(heap: Global, line: &str) -> Result<Vec<u8>, Fail> {
     let request = read_request(heap, line)?;
-    match command_bytes(heap, &request)? {
-        Some(bytes) => Ok(bytes),
-        None => Err(Fail::new("no command")),
-    }
+    Ok(command_bytes(heap, &request)?.ok_or("no command")?)
 }
 
 #[test]

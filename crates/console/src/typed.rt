@@ -1,28 +1,30 @@
 // A line that someone typed, and what it asks for.
-ghost use Rattle.std.specs.Prelude.{◌≡◌, ◌<◌, true, IfOk};
-ghost use Rattle.pages.specs.Lists.{every};
-ghost use Rattle.words.specs.Words.{in_word};
+ghost use Rattle.std.specs.Prelude.{◌≡◌, ◌<◌, ◌^◌, true, IfOk};
 ghost use Rattle.console.specs.Typed.{good_word, letters_of, GoodWords, Good};
 
-use driver::hold_bytes;
-use questions::is_word;
-use std::alloc::{AllocError, AllocFailed, Global};
-use std::fmt;
+use questions::{Field, is_word};
+use std::alloc::{AllocError, Global};
+use thiserror::Error;
 use words::{in_word, made_small};
 
 // So many words at most: they make 31 parts of a question, with a "both" between any two.
 const MOST_WORDS: usize = 16;
 
+// So many bytes of a word count.
+const LONGEST_WORD: usize = 64;
+
 // So many hits at most.
 const MOST_HITS: u64 = 1000;
 
-// A word and where it is looked for: 1 in the title, 2 in the body, 0 in both.
+// A word and where it is looked for.
 #[derive(Drop)]
 pub struct Word {
-    pub field: u8,
+    pub field: Field,
     pub letters: Vec<u8>,
 }
 
+// What a person asks for, in words and text, help and quit among it. Six of these stand in `reports::Request` too: that is what the engine reads out of
+// bytes, and has texts as bytes and questions as they are spelled.
 #[derive(Drop)]
 pub enum Request<'a> {
     Put {
@@ -42,75 +44,36 @@ pub enum Request<'a> {
 }
 
 // What was expected in place of what was typed.
-#[derive(Clone, Copy, Debug)]
+#[derive(Clone, Copy, Debug, Error)]
 pub enum Misread<'a> {
+    #[error("expected put, remove, note, ask, count, fetch, help or quit, not {0:?}")]
     Verb(&'a str),
     // This verb stands alone.
+    #[error("expected nothing after {0}")]
     Alone(&'a str),
+    #[error("expected a number from 0 to 18446744073709551615, not {0:?}")]
     Number(&'a str),
+    #[error("expected a number, a title, \" | \" and a body")]
     Bar,
+    #[error("expected a title of at most 255 bytes, not {0}")]
     LongTitle(usize),
+    #[error("expected a body of at most 65535 bytes, not {0}")]
     LongBody(usize),
+    #[error("expected how many are wanted, from 1 to 1000, not {0:?}")]
     Most(&'a str),
+    #[error("expected words to look for")]
     NoWords,
     // More words than a question can have.
+    #[error("expected at most 16 words: n words make 2n-1 parts, of at most 31")]
     ManyWords,
+    #[error("expected a word of letters and digits, not {0:?}")]
     NoWord(&'a str),
-    NoMemory,
+    #[error("there is no memory left")]
+    NoMemory(#[from(alloc)] AllocError),
 }
 
-impl fmt::Display for Misread<'_> {
-    fn fmt<W: fmt::Write>(&self, f: &mut fmt::Formatter<W>) -> fmt::Result {
-        match self {
-            Misread::Verb(verb) => write!(
-                f,
-                "expected put, remove, note, ask, count, fetch, help or quit, not {verb:?}"
-            ),
-            Misread::Alone(verb) => write!(f, "expected nothing after {verb}"),
-            Misread::Number(text) => write!(
-                f,
-                "expected a number from 0 to 18446744073709551615, not {text:?}"
-            ),
-            Misread::Bar => write!(f, "expected a number, a title, \" | \" and a body"),
-            Misread::LongTitle(count) => write!(
-                f,
-                "expected a title of at most 255 bytes, not {count}"
-            ),
-            Misread::LongBody(count) => write!(
-                f,
-                "expected a body of at most 65535 bytes, not {count}"
-            ),
-            Misread::Most(text) => write!(
-                f,
-                "expected how many are wanted, from 1 to 1000, not {text:?}"
-            ),
-            Misread::NoWords => write!(f, "expected words to look for"),
-            Misread::ManyWords => write!(
-                f,
-                "expected at most 16 words: n words make 2n-1 parts, of at most 31"
-            ),
-            Misread::NoWord(text) => write!(
-                f,
-                "expected a word of letters and digits, not {text:?}"
-            ),
-            Misread::NoMemory => write!(f, "there is no memory left"),
-        }
-    }
-}
-
-impl From<AllocError> for Misread<'_> {
-    fn from(_error: AllocError) -> Self {
-        Misread::NoMemory
-    }
-}
-
-impl<T: Drop> From<AllocFailed<T>> for Misread<'_> {
-    fn from(_refused: AllocFailed<T>) -> Self {
-        Misread::NoMemory
-    }
-}
-
-// What a line asks for. The engine never says of it that it is no command.
+// What a line asks for. The engine never says of it that it is no command. That stays a fact of what was read, and is none of the type's: anyone may
+// make a request, and `command_bytes` takes any.
 pub fn read_request<'a>(heap: Global, line: &'a str) -> Result<Request<'a>, Misread<'a>>
     ensures { IfOk result Good }
 {
@@ -118,12 +81,12 @@ pub fn read_request<'a>(heap: Global, line: &'a str) -> Result<Request<'a>, Misr
     match verb {
         "put" => read_put(rest),
         "remove" => Ok(Request::Remove(read_number(rest)?)),
-        "note" => alone(verb, rest, Plain::Note),
+        "note" => alone(verb, rest, Request::Note),
         "ask" => read_ask(heap, rest),
         "count" => read_count(heap, rest),
         "fetch" => Ok(Request::Fetch(read_number(rest)?)),
-        "help" => alone(verb, rest, Plain::Help),
-        "quit" => alone(verb, rest, Plain::Quit),
+        "help" => alone(verb, rest, Request::Help),
+        "quit" => alone(verb, rest, Request::Quit),
         _ => Err(Misread::Verb(verb)),
     }
 }
@@ -136,34 +99,23 @@ fn split_first(text: &str) -> (&str, &str) {
     }
 }
 
-// A verb after which nothing comes.
-#[derive(Clone, Copy)]
-enum Plain {
-    Note,
-    Help,
-    Quit,
-}
-
-fn alone<'a>(verb: &'a str, rest: &'a str, plain: Plain) -> Result<Request<'a>, Misread<'a>>
-    ensures { IfOk result Good }
+// What a verb asks for after which nothing comes.
+fn alone<'a>(verb: &'a str, rest: &'a str, asked: Request<'a>) -> Result<Request<'a>, Misread<'a>>
+    ensures { IfOk result (λ r. r ≡ asked.entry) }
 {
-    if !rest.is_empty() {
-        return Err(Misread::Alone(verb));
-    }
-    match plain {
-        Plain::Note => Ok(Request::Note),
-        Plain::Help => Ok(Request::Help),
-        Plain::Quit => Ok(Request::Quit),
+    if rest.is_empty() {
+        Ok(asked)
+    } else {
+        Err(Misread::Alone(verb))
     }
 }
 
+// A number in decimal digits. That it is below 2^64 is said here and not left to its type: without it that fact stayed open in `read_request`, where the
+// number comes out of a `?`.
 fn read_number(text: &str) -> Result<u64, Misread<'_>>
-    ensures { IfOk result (λ n. n < 18446744073709551616) }
+    ensures { IfOk result (λ n. n < 2 ^ 64) }
 {
-    match text.parse::<u64>() {
-        Ok(number) => Ok(number),
-        Err(_) => Err(Misread::Number(text)),
-    }
+    text.parse().map_err(|_| Misread::Number(text))
 }
 
 // A number, a title, a bar and a body.
@@ -174,15 +126,19 @@ fn read_put<'a>(text: &'a str) -> Result<Request<'a>, Misread<'a>>
         return Err(Misread::Bar);
     };
     let (number, title) = split_first(head);
-    let name = read_number(number)?;
+    put(read_number(number)?, title, body)
+}
+
+// A document, if it is not too long.
+fn put<'a>(name: u64, title: &'a str, body: &'a str) -> Result<Request<'a>, Misread<'a>>
+    ensures { IfOk result Good }
+{
     if title.len() > 255 {
         return Err(Misread::LongTitle(title.len()));
     }
     if body.len() > 65535 {
         return Err(Misread::LongBody(body.len()));
     }
-    let _ = hold_bytes(title.as_bytes());
-    let _ = hold_bytes(body.as_bytes());
     Ok(Request::Put { name, title, body })
 }
 
@@ -192,13 +148,14 @@ fn read_ask<'a>(heap: Global, text: &'a str) -> Result<Request<'a>, Misread<'a>>
 {
     let (number, rest) = split_first(text);
     let most = read_number(number)?;
-    if most == 0 || most > MOST_HITS {
+    if !(1..=MOST_HITS).contains(&most) {
         return Err(Misread::Most(number));
     }
     let words = read_words(heap, rest)?;
     Ok(Request::Ask(most, words))
 }
 
+// The words that the documents to be counted have.
 fn read_count<'a>(heap: Global, text: &'a str) -> Result<Request<'a>, Misread<'a>>
     ensures { IfOk result Good }
 {
@@ -206,6 +163,7 @@ fn read_count<'a>(heap: Global, text: &'a str) -> Result<Request<'a>, Misread<'a
     Ok(Request::Count(words))
 }
 
+// Words with spaces between them, one at least and 16 at most.
 fn read_words<'a>(heap: Global, text: &'a str) -> Result<Vec<Word>, Misread<'a>>
     ensures { IfOk result (λ ws. GoodWords ws.items) }
 {
@@ -229,21 +187,20 @@ fn read_word<'a>(heap: Global, text: &'a str) -> Result<Word, Misread<'a>>
 {
     let (field, rest) = field_of(text);
     let letters = letters(heap, rest.as_bytes())?;
-    if !all_in_word(rest.as_bytes()) || !is_word(letters.as_slice()) {
+    if !rest.bytes().all(in_word) || !is_word(letters.as_slice()) {
         return Err(Misread::NoWord(text));
     }
     Ok(Word { field, letters })
 }
 
-fn field_of(text: &str) -> (u8, &str)
-    ensures { result.0 < 3 }
-{
+// Where a word is looked for, and the rest of it.
+fn field_of(text: &str) -> (Field, &str) {
     if let Some(rest) = text.strip_prefix("title:") {
-        return (1, rest);
-    }
-    match text.strip_prefix("body:") {
-        Some(rest) => (2, rest),
-        None => (0, text),
+        (Field::Title, rest)
+    } else if let Some(rest) = text.strip_prefix("body:") {
+        (Field::Body, rest)
+    } else {
+        (Field::Either, text)
     }
 }
 
@@ -251,21 +208,9 @@ fn field_of(text: &str) -> (u8, &str)
 fn letters(heap: Global, bytes: &[u8]) -> Result<Vec<u8>, AllocError>
     ensures { IfOk result (λ v. v.items ≡ letters_of bytes.now) }
 {
-    let mut letters = Vec::new(heap);
-    for b in bytes {
-        letters.push(made_small(*b))?;
-    }
-    letters.truncate(64);
-    Ok(letters)
-}
-
-fn all_in_word(bytes: &[u8]) -> bool
-    ensures { result ≡ every in_word bytes.now }
-{
-    for b in bytes {
-        if !in_word(*b) {
-            return false;
-        }
-    }
-    true
+    bytes
+        .iter()
+        .map(|b| made_small(*b))
+        .take(LONGEST_WORD)
+        .collect(heap)
 }

@@ -1,6 +1,6 @@
 -- Laws of documents on pages. Assumes nothing.
 use Rattle.std.proofs.Common.{◌≡◌, ℕ, zero, suc, ◌+◌, ◌-◌, ◌*◌, ◌%◌, ◌^◌, ◌<◌, ◌≤◌, Bool, true, false, ◌&&◌, ltb, leb, List, [], ◌∷◌, ◌++◌, length, get_or, take, drop, Some, None, sym, refl, ap, ◌∙◌, ⊎_elim, append_assoc, append-nil, mul-suc, arith, length-append, length-drop, length-take}
-use Rattle.std.proofs.lemmas.List.{ext_get_or, take_at, drop_at, drop-drop, take-take, drop-take, get_or-take, get_or-drop, get_or_append_left, get_or-append_right, get_or_past, length-take-le, take-append-drop, nil_from_length}
+use Rattle.std.proofs.lemmas.List.{ext_get_or, take_all, take_at, drop_at, drop-drop, take-take, drop-take, get_or-take, get_or-drop, get_or_append_left, get_or-append_right, get_or_past, length-take-le, take-append-drop, nil_from_length}
 use Rattle.std.proofs.lemmas.Bool.{cases_lt, cases_Bool, and_parts, and_from, eq-eqb, lt-ltb, ltb-true, le-leb, leb-true}
 use Rattle.pages.specs.Lists.{pick, every, flat, zeros}
 use Rattle.pages.specs.Bytes.{in_bytes, all_bytes, from_eight}
@@ -178,6 +178,11 @@ unfolding from_eight
 number_in_front p a c at k n e l h s =
     let m : length (in_bytes k n []) ≡ k = length_in_bytes k n [] ∙ omega arith in
     ap (from_eight 0) (sym (part_of_front p 14 at k h) ∙ ap (λ x. take k (drop at x)) e ∙ part_between a (in_bytes k n []) c at k l m) ∙ from_in_bytes k n [] s
+
+-- a part of at most eight of the first 14 cells, read as eight bytes or fewer
+pub part_read : (p front : List ℕ) (at n : ℕ) → front ≡ take 14 p → at + n ≤ 14 → n ≤ 8 → from_eight 0 (take 8 (take n (drop at front))) ≡ cells_number p at n
+part_read p front at n e h l =
+    ap (from_eight 0) (take_all 8 (take n (drop at front)) (simp length-take (omega arith)) ∙ ap (λ x. take n (drop at x)) e ∙ part_of_front p 14 at n h)
 
 pub read_header_is : (p : Page) → 14 ≤ length p → all_bytes (take 14 p) ≡ true → read_header p ≡ Some (header_at p)
 unfolding read_header

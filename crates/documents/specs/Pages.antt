@@ -2,13 +2,16 @@
 -- A document begins on a page of its own. Each of its pages has 504 bytes of its content and then 8 bytes that stay 0, kept for a checksum; the last page is
 -- filled up with zeros. The content is the header, 14 bytes, and then the title and the body. The header is the name in 8 bytes, the length of the title in 1,
 -- the length of the body in 2, and how many words title and body have together in 3, each number with its highest byte first.
-use Rattle.std.specs.Prelude.{◌≡◌, ℕ, zero, suc, ◌+◌, ◌-◌, ◌*◌, ◌/◌, ◌%◌, ◌<◌, ◌≤◌, Bool, true, ◌&&◌, List, [], ◌∷◌, ◌++◌, length, take, drop, Some, None, Option, nat_le, nat_lt}
+use Rattle.std.specs.Prelude.{◌≡◌, ℕ, zero, suc, ◌+◌, ◌-◌, ◌*◌, ◌/◌, ◌%◌, ◌<◌, ◌≤◌, Bool, true, ◌&&◌, List, [], ◌∷◌, ◌++◌, length, take, drop, Some, None, Option, nat_le, nat_lt, codes}
+use Rattle.std.specs.Option.{option_or}
 use Rattle.pages.specs.Lists.{pick, every, each, flat, zeros}
 use Rattle.pages.specs.Bytes.{in_bytes, all_bytes, from_eight}
 use Rattle.pages.specs.Device.{Page, page_at, a_page}
 use Rattle.pages.specs.Places.{written}
 use Rattle.documents.specs.Document.{Doc, long}
 use Rattle.documents.specs.declared.layout.Header.{Header}
+use Rattle.documents.specs.declared.layout.Unfit.{Unfit}
+use Rattle.documents.specs.declared.layout.Unfit.TheVariants as case
 
 -- how many pages a title and a body of such lengths take
 abbrev pub page_count : ℕ → ℕ → ℕ
@@ -75,6 +78,23 @@ low_bytes cs = each (λ c. c % 256) cs
 -- whether a page of a title and a body can be written into a row: the row has 512 bytes, the lengths fit the header, and there is such a page
 abbrev pub can_write : List ℕ → List ℕ → ℕ → List ℕ → Bool
 can_write t b q out = (nat_le 512 (length out) && (nat_le (length t) 255 && nat_le (length b) 65535)) && nat_lt q (page_count (length t) (length b))
+
+-- what of a document is too long for a header, if anything is: the title first
+abbrev pub too_long : List ℕ → List ℕ → Option Unfit
+too_long t b = pick (nat_lt 255 (length t)) (Some case.TitleTooLong) (pick (nat_lt 65535 (length b)) (Some case.BodyTooLong) None)
+
+-- why a page is not written, where it is not: the row is too short, or else something is too long for a header, or else there is no such page
+abbrev pub unfit : List ℕ → List ℕ → ℕ → List ℕ → Option Unfit
+unfit t b q out =
+    pick (nat_lt (length out) 512) (Some case.RowTooShort)
+    (option_or (too_long t b) (pick (nat_le (page_count (length t) (length b)) q) (Some case.NoSuchPage) None))
+
+-- what is said of each
+abbrev pub unfit_text : Unfit → List ℕ
+unfit_text case.RowTooShort = codes "the row is too short"
+unfit_text case.TitleTooLong = codes "the title is too long"
+unfit_text case.BodyTooLong = codes "the body is too long"
+unfit_text case.NoSuchPage = codes "there is no such page"
 
 -- the page that is written of what stands in cells
 abbrev pub page_from_cells : ℕ → List ℕ → List ℕ → ℕ → ℕ → Page

@@ -2,7 +2,9 @@
 #![tactic(auto)]
 
 mod layout;
+mod texts;
 mod theorems;
 
-pub use layout::{Header, page_count, read_header, write_page};
+pub use layout::{Content, Header, Unfit, page_count, read_header};
+pub use texts::Texts;
 pub use theorems::{pages_stand, room_suffices};

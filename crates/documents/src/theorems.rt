@@ -3,15 +3,13 @@ ghost use Rattle.documents.specs.Pages.{PagesStand};
 ghost use Rattle.documents.specs.Room.{RoomSuffices};
 
 // Documents take less than eight times their weight, so that what is asked and what is coming fit one half of a device.
-pub fn room_suffices() -> u8
+#[tactic(auto, using(crate::proofs::Room::room))]
+pub fn room_suffices()
     ensures { RoomSuffices }
-{
-    0
-}
+{}
 
 // The pages of a document, its header, and how it is put together again from its pages.
-pub fn pages_stand() -> u8
+#[tactic(auto, using(crate::proofs::Pages::stand))]
+pub fn pages_stand()
     ensures { PagesStand }
-{
-    0
-}
+{}

@@ -39,11 +39,7 @@ unfolding zeros
 zeros_replicate zero = refl
 zeros_replicate (suc n) = ap (λ l. 0 ∷ l) (zeros_replicate n)
 
-pub blank_none : blank 0 ≡ []
+pub blank_replicate : (n : ℕ) → replicate n (replicate 512 0) ≡ blank n
 unfolding blank
-blank_none = refl
-
-pub blank_more : (n : ℕ) → blank n ++ zeros 512 ∷ [] ≡ blank (suc n)
-unfolding blank
-blank_more zero = refl
-blank_more (suc n) = ap (λ l. zeros 512 ∷ l) (blank_more n)
+blank_replicate zero = refl
+blank_replicate (suc n) = let p = zeros_replicate 512 in rw (p, blank_replicate n)

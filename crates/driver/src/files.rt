@@ -4,10 +4,10 @@ ghost use Rattle.driver.specs.Sizes.{Holds, Fit, Found};
 
 use crate::devices::{Device, Page};
 use crate::faults::Fault;
-use std::error::Error;
 use std::fs::{File, OpenOptions};
 use std::io::{Read, Seek, SeekFrom, Write};
-use std::{fmt, fs, io};
+use std::{fs, io};
+use thiserror::Error;
 
 // So many pages there are at least and at most.
 const FEWEST: u64 = 256;
@@ -15,52 +15,26 @@ const FEWEST: u64 = 256;
 const MOST: u64 = 16_777_216;
 
 // Why a file cannot serve as a device.
-#[derive(Clone, Copy, Debug)]
+#[derive(Clone, Copy, Debug, Error)]
 pub enum BadFile {
     // There is none, and it was not said how many pages to make.
+    #[error("there is no such file: say how many pages it is to have, 256 to 16777216")]
     Missing,
     // It has so many bytes, and not 512 for each of 256 to 16,777,216 pages.
+    #[error("the file has {0} bytes, which is not 512 for each of 256 to 16777216 pages")]
     Size(u64),
     // So many pages were asked for, and not 256 to 16,777,216.
+    #[error("{0} pages were asked for, which is not 256 to 16777216")]
     Asked(u64),
     // It has another number of pages than was asked for.
+    #[error("the file has {found} pages, and {asked} were asked for")]
     Other { found: u64, asked: u64 },
     // It cannot be reached, as the system says.
-    Io(io::Error),
+    #[error("the file cannot be opened: {0}")]
+    Io(#[from] io::Error),
 }
 
-impl fmt::Display for BadFile {
-    fn fmt<W: fmt::Write>(&self, f: &mut fmt::Formatter<W>) -> fmt::Result {
-        match self {
-            BadFile::Missing => write!(
-                f,
-                "there is no such file: say how many pages it is to have, 256 to 16777216"
-            ),
-            BadFile::Size(size) => write!(
-                f,
-                "the file has {size} bytes, which is not 512 for each of 256 to 16777216 pages"
-            ),
-            BadFile::Asked(asked) => write!(
-                f,
-                "{asked} pages were asked for, which is not 256 to 16777216"
-            ),
-            BadFile::Other { found, asked } => write!(
-                f,
-                "the file has {found} pages, and {asked} were asked for"
-            ),
-            BadFile::Io(error) => write!(f, "the file cannot be opened: {error}"),
-        }
-    }
-}
-
-impl Error for BadFile {}
-
-impl From<io::Error> for BadFile {
-    fn from(error: io::Error) -> BadFile {
-        BadFile::Io(error)
-    }
-}
-
+// A file of pages that is open, and how many it has.
 #[derive(Drop)]
 pub struct FileDevice {
     file: File,
@@ -77,12 +51,10 @@ impl FileDevice {
         if fs::exists(rt, path)? {
             return FileDevice::open_old(rt, path, asked);
         }
-        match asked {
-            Some(pages) => FileDevice::make(rt, path, pages),
-            None => Err(BadFile::Missing),
-        }
+        FileDevice::make(rt, path, asked.ok_or(BadFile::Missing)?)
     }
 
+    // The pages of a file that is there, if they are as many as were asked for.
     fn open_old(rt: &HostRuntime, path: &str, asked: Option<u64>) -> Result<FileDevice, BadFile> {
         let file = OpenOptions::new().read(true).write(true).open(rt, path)?;
         let pages = found_pages(file.metadata()?.len(), asked)?;
@@ -102,6 +74,7 @@ impl FileDevice {
         Ok(FileDevice { file, pages })
     }
 
+    // Goes to where a page begins in the file, so that it is read or written there.
     fn seek(&mut self, page: u64) -> Result<(), Fault> {
         if page >= self.pages {
             return Err(Fault::NoSuchPage(page));
@@ -120,19 +93,16 @@ impl Device for FileDevice {
 
     fn read(&mut self, page: u64, into: &mut Page) -> Result<(), Fault> {
         self.seek(page)?;
-        self.file.read_exact(into)?;
-        Ok(())
+        Ok(self.file.read_exact(into)?)
     }
 
     fn write(&mut self, page: u64, from: &Page) -> Result<(), Fault> {
         self.seek(page)?;
-        self.file.write_all(from)?;
-        Ok(())
+        Ok(self.file.write_all(from)?)
     }
 
     fn flush(&mut self) -> Result<(), Fault> {
-        self.file.sync_data()?;
-        Ok(())
+        Ok(self.file.sync_data()?)
     }
 }
 
@@ -141,11 +111,7 @@ pub fn pages_of_size(size: u64) -> Option<u64>
     ensures { MatchOption result (Fit size → ⊥) (Holds size) }
 {
     let pages = size / 512;
-    if size % 512 == 0 && pages >= FEWEST && pages <= MOST {
-        Some(pages)
-    } else {
-        None
-    }
+    (size % 512 == 0 && (FEWEST..=MOST).contains(&pages)).then_some(pages)
 }
 
 // How many pages a file of so many bytes has, if that is what was asked for.

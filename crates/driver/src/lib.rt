@@ -6,14 +6,12 @@ mod faults;
 mod files;
 mod machine;
 mod memory;
-mod numbers;
 
 pub use devices::{Device, Page};
 pub use faults::Fault;
 pub use files::{BadFile, FileDevice, found_pages, pages_of_size};
 pub use machine::{End, Engine, MOST_ACTS, Ran};
 pub use memory::MemoryDevice;
-pub use numbers::{hold_bytes, number_bytes};
 
 #[cfg(test)]
 mod tests;

@@ -1,16 +1,17 @@
 // The engine beside its device: it is told one thing, and does one act, at a time.
-ghost use Rattle.std.specs.Prelude.{◌≡◌, ℕ, ◌+◌, ◌<◌, ◌≤◌, ◌⊎◌, List, [], ◌∷◌, ◌++◌, map, length, take, IfOk, vec_items, vec_len, MatchResult, OnOk, ◌≢◌};
-ghost use Rattle.pages.specs.Lists.{zeros};
+ghost use Rattle.std.specs.Prelude.{◌≡◌, ℕ, ◌+◌, ◌<◌, ◌^◌, ◌≤◌, ◌⊎◌, List, [], ◌∷◌, ◌++◌, map, length, take, true, IfOk, vec_items, vec_len, MatchResult, OnOk, ◌≢◌};
+ghost use Rattle.pages.specs.Bytes.{all_bytes};
 ghost use Rattle.reports.specs.Run.{World, Act};
 ghost use Rattle.reports.specs.Entry.{ActTold};
 ghost use Rattle.reports.specs.Machine.{own};
+ghost use Rattle.reports.specs.Stepping.{event_told};
 ghost use Rattle.driver.specs.Acts.{meant, rows_of, ToldSo, Faulty, Acted, Went, Powered, Commanded};
 
 use crate::devices::{Device, Page};
 use crate::faults::Fault;
-use crate::numbers::{hold_bytes, number_bytes};
-use reports::Told;
+use reports::{Event, Told};
 use std::alloc::{AllocError, Global};
+use std::ops::ControlFlow;
 
 // More acts than any command has.
 pub const MOST_ACTS: u64 = 1 << 40;
@@ -22,7 +23,8 @@ const LENT: usize = 131_072;
 #[derive(Clone, Copy, Debug, PartialEq, Eq)]
 pub enum End {
     Done,
-    // The engine refused it, by this number.
+    // The engine refused it, by this number, and it is printed so. It stays a number: any from 1 to 999 is promised here, and the engine's own `Refusal` has
+    // only some of them.
     Refused(u64),
     // It was still running after as many acts as it was given.
     Stopped,
@@ -45,30 +47,20 @@ impl Ran {
     {
         match self.end {
             End::Stopped => Err(Fault::Endless),
-            End::Done => Ok(self),
-            End::Refused(_) => Ok(self),
+            End::Done | End::Refused(_) => Ok(self),
         }
     }
 }
 
-// What the engine is told.
+// What the engine is told next. It is no option of an event: a `None` would say that nothing is told, where it is the page.
 #[derive(Clone, Copy)]
-enum Event {
-    Power,
-    Command,
-    // The page that it asked for.
+enum Next<'a> {
+    Event(Event<'a>),
+    // The page that it asked for, which stands beside it: an event would hold it while the device reads another.
     Page,
-    // What it asked for is done.
-    Next,
 }
 
-// What follows an act.
-#[derive(Clone, Copy)]
-enum Next {
-    Tell(Event),
-    Ended(End),
-}
-
+// An engine on its device: its memory, the page that was read last or is written next, and the row that it is lent to show and to hand over pages.
 #[derive(Drop)]
 pub struct Engine<D: Device + Drop> {
     device: D,
@@ -97,14 +89,12 @@ impl<D: Device + Drop> Engine<D> {
 
     // An engine that came up on this device.
     pub fn start(heap: Global, device: D) -> Result<Engine<D>, Fault>
-        ensures { IfOk result (λ e. (ran : Ran) × Powered D.Device.stands 1099511627776 device e.device e.memory.items ran × (ran.end ≡ End.Done)) }
+        ensures { IfOk result (λ e. (ran : Ran) × Powered D.Device.stands MOST_ACTS device e.device e.memory.items ran × (ran.end ≡ End.Done)) }
     {
         let mut engine = Engine::new(heap, device)?;
-        let ran = engine.power_on(MOST_ACTS)?.ended()?;
-        match ran.end {
+        match engine.power_on(MOST_ACTS)?.ended()?.end {
             End::Refused(number) => Err(Fault::NoStart(number)),
-            End::Done => Ok(engine),
-            End::Stopped => Err(Fault::Endless),
+            _ => Ok(engine),
         }
     }
 
@@ -120,34 +110,33 @@ impl<D: Device + Drop> Engine<D> {
     pub fn power_on(&mut self, acts: u64) -> Result<Ran, Fault>
         ensures { IfOk result (λ ran. Powered D.Device.stands acts self.old.device self.new.device self.new.memory.items ran) }
     {
-        clear(self.memory.as_mut_slice());
-        let pages = number_bytes(self.device.pages());
-        let ran = self.run(Event::Power, &pages, acts)?;
-        Ok(ran)
+        self.memory.as_mut_slice().fill(0);
+        let pages = self.device.pages();
+        self.run(Event::On(pages), acts)
     }
 
     // Says a command to the engine, which does so many acts at most.
     pub fn command(&mut self, bytes: &[u8], acts: u64) -> Result<Ran, Fault>
         ensures { IfOk result (λ ran. Commanded D.Device.stands acts bytes.now self.old.device self.old.memory.items self.new.device self.new.memory.items ran) }
     {
-        self.run(Event::Command, bytes, acts)
+        self.run(Event::Said(bytes), acts)
     }
 
     // Tells the engine this, does what it asks for, and so on, for so many acts at most.
-    fn run(&mut self, first: Event, bytes: &[u8], acts: u64) -> Result<Ran, Fault>
-        ensures { IfOk result (λ ran. Went D.Device.stands acts (meant first bytes.now self.old.page) self.old.device self.old.memory.items self.new.device self.new.memory.items ran) }
+    fn run(&mut self, first: Event<'_>, acts: u64) -> Result<Ran, Fault>
+        ensures { IfOk result (λ ran. Went D.Device.stands acts (event_told first.entry) self.old.device self.old.memory.items self.new.device self.new.memory.items ran) }
     {
         let mut ran = Ran {
             rows: Vec::new(self.heap),
             pages: 0,
             end: End::Stopped,
         };
-        let mut event = first;
+        let mut next = Next::Event(first);
         for _ in 0..acts {
-            let told = self.tell(event, bytes);
+            let told = self.tell(next);
             match self.act(told, &mut ran)? {
-                Next::Tell(next) => event = next,
-                Next::Ended(end) => {
+                ControlFlow::Continue(then) => next = then,
+                ControlFlow::Break(end) => {
                     ran.end = end;
                     return Ok(ran);
                 }
@@ -156,24 +145,22 @@ impl<D: Device + Drop> Engine<D> {
         Ok(ran)
     }
 
-    // Tells the engine one thing. The bytes are those of the command, or how many pages there are.
-    fn tell(&mut self, event: Event, bytes: &[u8]) -> Told
+    // Tells the engine one thing.
+    fn tell(&mut self, next: Next<'_>) -> Told
         ensures device { self.new.device ≡ self.old.device }
-        ensures says { ToldSo (own.step self.old.memory.items (meant event bytes.now self.old.page)) result self.old.lent.items self.new.memory.items self.new.lent.items }
+        ensures says { ToldSo (own.step self.old.memory.items (meant next.entry self.old.page)) result self.old.lent.items self.new.memory.items self.new.lent.items }
     {
         let memory = self.memory.as_mut_slice();
         let lent = self.lent.as_mut_slice();
-        match event {
-            Event::Power => reports::step(memory, 0, bytes, lent),
-            Event::Command => reports::step(memory, 1, bytes, lent),
-            Event::Page => reports::step(memory, 2, &self.page, lent),
-            Event::Next => reports::step(memory, 3, &[], lent),
+        match next {
+            Next::Event(event) => reports::tell(memory, event, lent),
+            Next::Page => reports::tell(memory, Event::Page(&self.page), lent),
         }
     }
 
     // Does what the engine asks for.
-    fn act(&mut self, told: Told, ran: &mut Ran) -> Result<Next, Fault>
-        requires { ran.old.pages + 1 < 18446744073709551616 }
+    fn act(&mut self, told: Told, ran: &mut Ran) -> Result<ControlFlow<End, Next<'static>>, Fault>
+        requires { ran.old.pages + 1 < 2 ^ 64 }
         ensures few { ran.new.pages ≤ ran.old.pages + 1 }
         ensures same { (ran.new.end ≡ ran.old.end) × (self.new.memory.items ≡ self.old.memory.items) }
         ensures made { IfOk result (λ n. (a : Act) (out : List ℕ) → ActTold a told out self.old.lent.items → (w : World) → D.Device.stands self.old.device w.device → Faulty w a ⊎ Acted D.Device.stands w a (rows_of ran.old) ran.old.pages n self.new.page self.new.device (rows_of ran.new) ran.new.pages) }
@@ -182,28 +169,24 @@ impl<D: Device + Drop> Engine<D> {
             Told::Read(page) => {
                 self.device.read(page, &mut self.page)?;
                 ran.pages += 1;
-                Ok(Next::Tell(Event::Page))
+                Ok(ControlFlow::Continue(Next::Page))
             }
             Told::Write(page) => {
-                self.page.copy_from_slice(&self.lent.as_slice()[0..512]);
-                let _ = hold_bytes(&self.page);
+                self.page = front_page(self.lent.as_slice());
                 self.device.write(page, &self.page)?;
                 ran.pages += 1;
-                Ok(Next::Tell(Event::Next))
+                Ok(ControlFlow::Continue(Next::Event(Event::Next)))
             }
             Told::Flush => {
                 self.device.flush()?;
-                Ok(Next::Tell(Event::Next))
+                Ok(ControlFlow::Continue(Next::Event(Event::Next)))
             }
             Told::Shows(count) => {
                 self.show(count, &mut ran.rows)?;
-                Ok(Next::Tell(Event::Next))
+                Ok(ControlFlow::Continue(Next::Event(Event::Next)))
             }
-            Told::Done => Ok(Next::Ended(End::Done)),
-            Told::No(number) => {
-                let end = refusal(number)?;
-                Ok(Next::Ended(end))
-            }
+            Told::Done => Ok(ControlFlow::Break(End::Done)),
+            Told::No(number) => Ok(ControlFlow::Break(refusal(number)?)),
         }
     }
 
@@ -211,30 +194,31 @@ impl<D: Device + Drop> Engine<D> {
     fn show(&self, count: u64, rows: &mut Vec<Vec<u8>>) -> Result<(), Fault>
         ensures { OnOk result ((count ≤ vec_len self.now.lent) × (map vec_items rows.new.items ≡ map vec_items rows.old.items ++ take count self.now.lent.items ∷ [])) }
     {
-        if count > self.lent.len() as u64 {
-            return Err(Fault::TooLong(count));
-        }
-        let row = Vec::from_slice(self.heap, &self.lent.as_slice()[0..count as usize])?;
-        rows.push(row)?;
+        let lent = self.lent.as_slice();
+        let row = lent.get(..count as usize).ok_or(Fault::TooLong(count))?;
+        rows.push(Vec::from_slice(self.heap, row)?)?;
         Ok(())
     }
+}
+
+// The page at the front of the lent row. That it is bytes is said here, where their type tells it.
+fn front_page(lent: &[u8]) -> Page
+    requires { 512 ≤ length lent.now }
+    ensures front { result ≡ take 512 lent.now }
+    ensures bytes { all_bytes result ≡ true }
+{
+    let mut page = [0; 512];
+    page.copy_from_slice(&lent[..512]);
+    page
 }
 
 // A refusal has a number below 1,000, and not 0.
 fn refusal(number: u64) -> Result<End, Fault>
     ensures { MatchResult result (λ n. (1 ≤ number) × (number < 1000) × (n ≡ End.Refused number)) (λ e. (e ≡ Fault.NoRefusal number) × (number < 1000 → number ≡ 0)) }
 {
-    if number == 0 || number >= 1000 {
-        return Err(Fault::NoRefusal(number));
-    }
-    Ok(End::Refused(number))
-}
-
-// Power came: all is 0.
-fn clear(memory: &mut [u64])
-    ensures { memory.new ≡ zeros (length memory.old) }
-{
-    for cell in memory.iter_mut() {
-        *cell = 0;
+    if (1..1000).contains(&number) {
+        Ok(End::Refused(number))
+    } else {
+        Err(Fault::NoRefusal(number))
     }
 }

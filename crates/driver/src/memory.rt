@@ -16,10 +16,7 @@ impl MemoryDevice {
     pub fn new(heap: Global, count: usize) -> Result<MemoryDevice, AllocError>
         ensures { IfOk result (λ d. d.pages.items ≡ blank count) }
     {
-        let mut pages = Vec::new(heap);
-        for _ in 0..count {
-            pages.push([0u8; 512])?;
-        }
+        let pages = vec![in heap; [0u8; 512]; count]?;
         Ok(MemoryDevice { pages })
     }
 }
@@ -29,23 +26,24 @@ impl Device for MemoryDevice {
     ghost stands = { λ m d. all_written d.pages d.queue ≡ m.pages.items };
 
     fn pages(&self) -> u64 {
-        let count = self.pages.len();
-        count as u64
+        self.pages.len() as u64
     }
 
     fn read(&mut self, page: u64, into: &mut Page) -> Result<(), Fault> {
-        if page >= self.pages.len() as u64 {
-            return Err(Fault::NoSuchPage(page));
-        }
-        *into = self.pages[page as usize];
+        let found = self
+            .pages
+            .get(page as usize)
+            .ok_or(Fault::NoSuchPage(page))?;
+        *into = *found;
         Ok(())
     }
 
     fn write(&mut self, page: u64, from: &Page) -> Result<(), Fault> {
-        if page >= self.pages.len() as u64 {
-            return Err(Fault::NoSuchPage(page));
-        }
-        self.pages[page as usize] = *from;
+        let found = self
+            .pages
+            .get_mut(page as usize)
+            .ok_or(Fault::NoSuchPage(page))?;
+        *found = *from;
         Ok(())
     }
 

@@ -1,26 +1,23 @@
 // Drives the engine on a file of pages, by commands in hexadecimal digits, one to a line.
 #![tactic(auto)]
 
-use console::{bytes_of_hex, hex_of, open_engine, report};
+use console::{bytes_of_hex, exit_code, hex_of, open_engine};
 use driver::{End, Engine, FileDevice, MOST_ACTS};
 use std::io::{BufRead, BufReader};
 use std::process::ExitCode;
 
 fn main(rt: HostRuntime) -> ExitCode {
-    match report(&rt, run(&rt)) {
-        Ok(()) => ExitCode::SUCCESS,
-        // What was wrong is printed by now, and not once more by the runtime.
-        Err(_) => ExitCode::FAILURE,
-    }
+    exit_code(&rt, run(&rt))
 }
 
+// Reads the lines one by one, and says the command of each to the engine; a line that is none is told of by its number.
 fn run(rt: &HostRuntime) -> anyhow::Result<()> {
     let heap = rt.alloc();
     let mut engine = open_engine(rt)?;
-    let mut number: u64 = 0;
-    for line in BufReader::new(heap, rt.stdin())?.split(heap, b'\n') {
+    let lines = BufReader::new(heap, rt.stdin())?.split(heap, b'\n');
+    for (before, line) in lines.enumerate() {
         let line = line?;
-        number = number.saturating_add(1);
+        let number = before.saturating_add(1);
         let text = line.as_slice().trim_ascii();
         if text.is_empty() {
             println!(rt; "error line {number}: expected a command in hexadecimal digits")?;

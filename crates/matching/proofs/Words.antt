@@ -1,9 +1,22 @@
 -- What is asked of the words of a text, one word at a time. Assumes nothing.
-use Rattle.std.proofs.Common.{◌≡◌, ℕ, zero, suc, ◌+◌, ◌<◌, ◌≤◌, Bool, true, false, ◌&&◌, eqb, List, [], ◌∷◌, map, length, get_or, take, drop, sym, refl, ap, ◌∙◌, ⊎_elim, arith}
-use Rattle.std.proofs.lemmas.Bool.{cases_Bool, both_ways}
-use Rattle.std.proofs.lemmas.List.{drop-map, drop_more, drop_all}
+use Rattle.std.proofs.Common.{◌≡◌, ℕ, zero, suc, ◌+◌, ◌<◌, ◌≤◌, Bool, true, false, cond, ◌&&◌, eqb, List, [], ◌∷◌, Option, map, length, take, sym, refl, ap, ◌∙◌, ⊎_elim, arith}
+use Rattle.std.specs.Option.{MatchOption}
+use Rattle.std.specs.Iterator.{YieldsFirst, YieldsThen}
+use Rattle.std.specs.List.{FoldsTo, prefix_len, zip}
+use Rattle.std.proofs.Math.Dec.{eqb-zero-suc, eqb-suc-suc}
+use Rattle.std.proofs.lemmas.Bool.{cases_Bool, cases_lt, both_ways}
+use Rattle.std.proofs.lemmas.Iterator.Consumers.{YieldsList-from_first}
+use Rattle.std.proofs.lemmas.Iterator.Search.{any_from_yields_List}
+use denote.Param.Members.{Mut, Called}
+use Rattle.std.proofs.lemmas.List.{nil_from_length}
 use Rattle.pages.specs.Lists.{or, any, same, starts_with}
 use Rattle.pages.proofs.Lists.{same_is, same_from}
+use Rattle.words.specs.Stretches.{to_come, Found}
+use Rattle.words.specs.Standing.{word_of, standing, words_left}
+use Rattle.words.specs.declared.Word.{Word}
+use Rattle.words.specs.declared.Words.{Words}
+use Rattle.words.proofs.Laws.{come_from_start}
+use Rattle.words.proofs.Standing.{standing_none, standing_next, found_next}
 use Rattle.questions.specs.Query.{words_here, words_somewhere, within, near_in}
 
 -- `same` either way round
@@ -14,24 +27,52 @@ same_turned a b =
     (λ f. f ∙ sym (⊎_elim (λ t. absurd (both_ways (same a b) f (same_from a b (sym (same_is b a t))))) (λ g. g) (cases_Bool (same b a))))
     (cases_Bool (same a b))
 
--- one word of those to come passes the test, or does not
-pub any_here : (p : List ℕ → Bool) (ws rest : List (List ℕ)) (w : List ℕ) → ws ≡ w ∷ rest → p w ≡ true → any p ws ≡ true
-any_here p ws rest w e h = ap (any p) e ∙ ap (λ b. or b (any p rest)) h
+-- whether any word of a text passes a test of where it stands
+pub any_standing : {F : Type 0} {g : Mut F (Word × Unit {0}) Bool} (p : Word → Bool) (text : List ℕ) (at : ℕ) (s u : Words) (f : F) (r : Bool) →
+    (xs : List Word) × (o : Option Word) × (j : F) × YieldsThen (YieldsFirst words_left) s xs o u × FoldsTo (λ q x n. Called g q (x, tt) false n) f xs j
+    × MatchOption o (r ≡ false) (λ x. (r ≡ true) × ((h : F) × Called g j (x, tt) true h)) →
+    s.text.now ≡ text → s.at ≡ at → ((x : Word) (b : Bool) (q : F) → Called g f (x, tt) b q → (q ≡ f) × (b ≡ p x)) → r ≡ any p (standing text at)
+any_standing p text at s u f r ran e k calls =
+    any_from_yields_List p u f r ran (YieldsList-from_first (λ w. w) words_left (standing text at) (λ i. standing (e i) (k i))) calls
 
-pub any_later : (p : List ℕ → Bool) (ws rest : List (List ℕ)) (w : List ℕ) → ws ≡ w ∷ rest → p w ≡ false → any p ws ≡ any p rest
-any_later p ws rest w e h = ap (any p) e ∙ ap (λ b. or b (any p rest)) h
+-- what is asked of the words to come is asked of each where it stands, if it is asked of the first one and of those after it
+module _ (bs : List ℕ) (p : Word → Bool) (asked : List (List ℕ) → Bool) (none : asked [] ≡ false)
+    (next : (at : ℕ) (w : Word) → Found bs at w → asked (to_come bs at) ≡ or (p w) (asked (to_come bs w.end))) where
+  asked_of_none : (at : ℕ) → to_come bs at ≡ [] → any p (standing bs at) ≡ asked (to_come bs at)
+  asked_of_none at e = ap (any p) (standing_none bs at e) ∙ sym none ∙ ap asked (sym e)
 
-pub somewhere_here : (ps ws rest : List (List ℕ)) (w : List ℕ) → ws ≡ w ∷ rest → words_here ps ws ≡ true → words_somewhere ps ws ≡ true
+  asked_of_few : (n at : ℕ) → length (to_come bs at) ≤ n → any p (standing bs at) ≡ asked (to_come bs at)
+  asked_of_few zero at h = asked_of_none at (nil_from_length (to_come bs at) (omega arith))
+  asked_of_few (suc n) at h =
+      ⊎_elim
+      (λ some. let f = found_next bs at some in
+      let w = f.0 in
+      let e = ap length f.1.comes in
+      ap (any p) (standing_next bs at w f.1) ∙ ap (or (p w)) (asked_of_few n w.end (omega arith)) ∙ sym (next at w f.1))
+      (λ few. asked_of_none at (nil_from_length (to_come bs at) (omega arith)))
+      (cases_lt 0 (length (to_come bs at)))
+
+  pub asked_of_each : (at : ℕ) → any p (standing bs at) ≡ asked (to_come bs at)
+  asked_of_each at = asked_of_few (length (to_come bs at)) at (omega arith)
+
+-- no words stand everywhere, and some words somewhere if they stand from one of the words on
+pub no_words : (ws : List (List ℕ)) → words_somewhere [] ws ≡ true
+unfolding words_somewhere words_here
+no_words [] = refl
+no_words (w ∷ ws) = refl
+
+some_words : (ps : List (List ℕ)) → 1 ≤ length ps → words_here ps [] ≡ false
+unfolding words_here
+some_words [] h = absurd (omega arith)
+some_words (p ∷ ps) h = refl
+
+pub somewhere_stands : (bs : List ℕ) (ps : List (List ℕ)) (at : ℕ) → 1 ≤ length ps → any (λ w. words_here ps (to_come bs w.start)) (standing bs at) ≡ words_somewhere ps (to_come bs at)
 unfolding words_somewhere
-somewhere_here ps ws rest w e h = ap (words_somewhere ps) e ∙ ap (λ b. or b (words_somewhere ps rest)) (sym (ap (words_here ps) e) ∙ h)
-
-pub somewhere_later : (ps ws rest : List (List ℕ)) (w : List ℕ) → ws ≡ w ∷ rest → words_here ps ws ≡ false → words_somewhere ps ws ≡ words_somewhere ps rest
-unfolding words_somewhere
-somewhere_later ps ws rest w e h = ap (words_somewhere ps) e ∙ ap (λ b. or b (words_somewhere ps rest)) (sym (ap (words_here ps) e) ∙ h)
-
-pub somewhere_last : (ps ws : List (List ℕ)) → ws ≡ [] → words_somewhere ps ws ≡ words_here ps ws
-unfolding words_somewhere
-somewhere_last ps ws e = ap (words_somewhere ps) e ∙ sym (ap (words_here ps) e)
+somewhere_stands bs ps at h =
+    let here : Word → Bool = λ w. words_here ps (to_come bs w.start) in
+    asked_of_each bs here (words_somewhere ps) (some_words ps h)
+    (λ at w f. ap (words_somewhere ps) f.comes ∙ ap (λ b. or b (words_somewhere ps (to_come bs w.end))) (ap (words_here ps) (sym f.comes ∙ come_from_start bs at w.start f.starts)))
+    at
 
 -- a beginning: what is too short for it does not begin so, and the front of anything else is compared with it
 pub starts_short : (p w : List ℕ) → length w < length p → starts_with p w ≡ false
@@ -48,64 +89,28 @@ starts_long [] w h = refl
 starts_long (x ∷ p) [] h = absurd (omega arith)
 starts_long (x ∷ p) (y ∷ w) h = ap (λ b. eqb x y && b) (starts_long p w (omega arith))
 
--- words one after the other
-pub here_next : (ps more ws rest : List (List ℕ)) (p w : List ℕ) → ps ≡ p ∷ more → ws ≡ w ∷ rest → same p w ≡ true → words_here ps ws ≡ words_here more rest
+-- words stand one after the other where as many match from the front on as there are of them
+pub here_counted : {X : Type 0} (f : X → List ℕ) (xs : List X) (ws : List (List ℕ)) →
+    eqb (length (take (prefix_len (λ p. same (f p.0) p.1) (zip xs ws)) (zip xs ws))) (length xs) ≡ words_here (map f xs) ws
 unfolding words_here
-here_next ps more ws rest p w e f h = ap (λ l. words_here l ws) e ∙ ap (words_here (p ∷ more)) f ∙ ap (λ b. b && words_here more rest) h
-
-pub here_other : (ps more ws rest : List (List ℕ)) (p w : List ℕ) → ps ≡ p ∷ more → ws ≡ w ∷ rest → same p w ≡ false → words_here ps ws ≡ false
-unfolding words_here
-here_other ps more ws rest p w e f h = ap (λ l. words_here l ws) e ∙ ap (words_here (p ∷ more)) f ∙ ap (λ b. b && words_here more rest) h
-
-pub here_ended : (ps more ws : List (List ℕ)) (p : List ℕ) → ps ≡ p ∷ more → ws ≡ [] → words_here ps ws ≡ false
-unfolding words_here
-here_ended ps more ws p e f = ap (λ l. words_here l ws) e ∙ ap (words_here (p ∷ more)) f
-
-pub here_all : (ps ws : List (List ℕ)) → ps ≡ [] → words_here ps ws ≡ true
-unfolding words_here
-here_all ps ws e = ap (λ l. words_here l ws) e
-
--- a word among the next so many
-pub within_here : (n : ℕ) (w v : List ℕ) (ws rest : List (List ℕ)) → 0 < n → ws ≡ v ∷ rest → same w v ≡ true → within n w ws ≡ true
-within_here zero w v ws rest h e s = absurd (omega arith)
-within_here (suc n) w v ws rest h e s = ap (within (suc n) w) e ∙ ap (λ b. or b (any (same w) (take n rest))) s
-
-pub within_later : (n m : ℕ) (w v : List ℕ) (ws rest : List (List ℕ)) → n ≡ suc m → ws ≡ v ∷ rest → same w v ≡ false → within n w ws ≡ within m w rest
-within_later n m w v ws rest h e s = ap (λ k. within k w ws) h ∙ ap (within (suc m) w) e ∙ ap (λ b. or b (any (same w) (take m rest))) s
-
-pub within_ended : (n : ℕ) (w : List ℕ) (ws : List (List ℕ)) → ws ≡ [] → within n w ws ≡ false
-within_ended zero w ws e = refl
-within_ended (suc n) w ws e = ap (within (suc n) w) e
-
-pub within_no_more : (n : ℕ) (w : List ℕ) (ws : List (List ℕ)) → n ≡ 0 → within n w ws ≡ false
-within_no_more n w ws e = ap (λ k. within k w ws) e
+here_counted f [] ws = refl
+here_counted f (x ∷ xs) [] = eqb-zero-suc (length xs)
+here_counted {X} f (x ∷ xs) (w ∷ ws) =
+    let rest : List (X × List ℕ) = zip xs ws in
+    let n : ℕ = prefix_len (λ p. same (f p.0) p.1) rest in
+    let more : 1 + n ≡ suc n = omega arith in
+    elim (same (f x) w) as (λ b. eqb (length (take (cond b (1 + n) 0) ((x, w) ∷ rest))) (suc (length xs)) ≡ (b && words_here (map f xs) ws)) [
+      | true ↦ ap (λ k. eqb (length (take k ((x, w) ∷ rest))) (suc (length xs))) more ∙ eqb-suc-suc (length (take n rest)) (length xs) ∙ here_counted f xs ws
+      | false ↦ eqb-zero-suc (length xs)
+    ]
 
 -- two words near each other
-abbrev pub NearHere : ℕ → List ℕ → List ℕ → List ℕ → List (List ℕ) → Bool
-NearHere n a b w rest = same w a && within n b rest
+abbrev pub near_here : ℕ → List ℕ → List ℕ → List ℕ → List (List ℕ) → Bool
+near_here n a b w rest = same w a && within n b rest
 
-pub near_first : (n : ℕ) (a b w : List ℕ) (ws rest : List (List ℕ)) → ws ≡ w ∷ rest → NearHere n a b w rest ≡ true → near_in n a b ws ≡ true
+pub near_stands : (bs : List ℕ) (n : ℕ) (a b : List ℕ) (at : ℕ) →
+    any (λ w. or (near_here n a b (word_of bs w) (to_come bs w.end)) (near_here n b a (word_of bs w) (to_come bs w.end))) (standing bs at) ≡ near_in n a b (to_come bs at)
 unfolding near_in
-near_first n a b w ws rest e h = ap (near_in n a b) e ∙ ap (λ t. or (or t (NearHere n b a w rest)) (near_in n a b rest)) h
-
-pub near_second : (n : ℕ) (a b w : List ℕ) (ws rest : List (List ℕ)) → ws ≡ w ∷ rest → NearHere n a b w rest ≡ false → NearHere n b a w rest ≡ true → near_in n a b ws ≡ true
-unfolding near_in
-near_second n a b w ws rest e h k =
-    ap (near_in n a b) e ∙ ap (λ t. or (or t (NearHere n b a w rest)) (near_in n a b rest)) h ∙ ap (λ t. or (or false t) (near_in n a b rest)) k
-
-pub near_later : (n : ℕ) (a b w : List ℕ) (ws rest : List (List ℕ)) → ws ≡ w ∷ rest → NearHere n a b w rest ≡ false → NearHere n b a w rest ≡ false →
-    near_in n a b ws ≡ near_in n a b rest
-unfolding near_in
-near_later n a b w ws rest e h k =
-    ap (near_in n a b) e ∙ ap (λ t. or (or t (NearHere n b a w rest)) (near_in n a b rest)) h ∙ ap (λ t. or (or false t) (near_in n a b rest)) k
-
-pub near_none : (n : ℕ) (a b : List ℕ) (ws : List (List ℕ)) → ws ≡ [] → near_in n a b ws ≡ false
-unfolding near_in
-near_none n a b ws e = ap (near_in n a b) e
-
--- the next of some words, and the end of them
-pub next_of : {X : Type 0} (f : X → List ℕ) (xs : List X) (i : ℕ) (x : X) → i < length xs → x ≡ get_or xs i x → drop i (map f xs) ≡ f x ∷ drop (i + 1) (map f xs)
-next_of f xs i x h e = drop-map f i xs ∙ ap (map f) (drop_more xs i x h ∙ ap (λ y. y ∷ drop (i + 1) xs) (sym e)) ∙ ap (λ l. f x ∷ l) (sym (drop-map f (i + 1) xs))
-
-pub none_left : {X : Type 0} (f : X → List ℕ) (xs : List X) (i : ℕ) → length xs ≤ i → drop i (map f xs) ≡ []
-none_left f xs i h = drop-map f i xs ∙ ap (map f) (drop_all i xs h)
+near_stands bs n a b at =
+    let here : Word → Bool = λ w. or (near_here n a b (word_of bs w) (to_come bs w.end)) (near_here n b a (word_of bs w) (to_come bs w.end)) in
+    asked_of_each bs here (near_in n a b) refl (λ at w f. ap (near_in n a b) f.comes) at

@@ -3,22 +3,21 @@ use Rattle.std.specs.Prelude.{◌≡◌, ℕ, Bool, List, map, vec_items}
 use Rattle.pages.specs.Lists.{or}
 use Rattle.documents.specs.Document.{Doc}
 use Rattle.questions.specs.Query as asked
-use Rattle.matching.specs.declared.query.Field.{Field}
-use Rattle.matching.specs.declared.query.Field.TheVariants as field
+use Rattle.questions.specs.Fields.{field_number}
+use Rattle.questions.specs.declared.field.Field.{Field}
+use Rattle.questions.specs.declared.field.Field.TheVariants as field
 use Rattle.matching.specs.declared.query.Query.{Query}
 use Rattle.matching.specs.declared.query.Query.TheVariants as query
-
--- the number of each field
-abbrev pub field_number : Field → ℕ
-field_number field.Either = 0
-field_number field.Title = 1
-field_number field.Body = 2
 
 -- whether it is so in the field, from whether it is so in the title and in the body
 abbrev pub in_field : Field → Bool → Bool → Bool
 in_field field.Either t b = or t b
 in_field field.Title t b = t
 in_field field.Body t b = b
+
+-- whether it is so in the field, whatever it is that is asked of a text
+abbrev pub AskedSo : (List ℕ → Bool → Type 0) → Field → List ℕ → List ℕ → Bool → Type 0
+AskedSo Answers f t b r = (p : List ℕ → Bool) → ((text : List ℕ) (answer : Bool) → Answers text answer → answer ≡ p text) → r ≡ in_field f (p t) (p b)
 
 -- the question that is asked; a box has two parts in a pattern, and the first one does not matter
 abbrev pub query_of : Query → asked.Query

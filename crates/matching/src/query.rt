@@ -1,27 +1,21 @@
 // Questions, and whether a document of some title and body matches one.
 ghost use Rattle.std.specs.Prelude.{◌≡◌};
-ghost use Rattle.matching.specs.View.{in_field, MatchesSo};
+ghost use Rattle.std.specs.Fn.{FnReturnsAt};
+ghost use Rattle.matching.specs.View.{AskedSo, MatchesSo};
 
 use crate::texts::{has_beginning, has_near, has_phrase, has_word};
+use documents::Texts;
+pub use questions::Field;
 
-// Where one looks.
-#[derive(Clone, Copy)]
-pub enum Field {
-    Either,
-    Title,
-    Body,
-}
-
-impl Field {
-    // Whether it is so where one looks, from whether it is so in the title and in the body.
-    fn has(self, title: bool, body: bool) -> bool
-        ensures { result ≡ in_field self title body }
-    {
-        match self {
-            Field::Either => title || body,
-            Field::Title => title,
-            Field::Body => body,
-        }
+// Whether what is asked of a text is so where one looks: in the title, in the body, or in either of them.
+fn in_field<F: Fn(&[u8]) -> bool>(field: Field, texts: Texts<'_>, asked: F) -> bool
+    requires { F.IsAlwaysCallable asked }
+    ensures { AskedSo (FnReturnsAt F.Fn asked) field texts.entry.title.now texts.entry.body.now result }
+{
+    match field {
+        Field::Either => asked(texts.title) || asked(texts.body),
+        Field::Title => asked(texts.title),
+        Field::Body => asked(texts.body),
     }
 }
 
@@ -42,27 +36,24 @@ pub enum Query {
 }
 
 impl Query {
-    // Whether a document of this title and body matches.
-    pub fn matches(&self, title: &[u8], body: &[u8]) -> bool
-        ensures { MatchesSo self.now title.now body.now result }
+    // Whether a document of these texts matches.
+    pub fn matches(&self, texts: Texts<'_>) -> bool
+        ensures { MatchesSo self.now texts.entry.title.now texts.entry.body.now result }
     {
         match self {
-            Query::Word(field, word) => field.has(
-                has_word(title, word.as_slice()),
-                has_word(body, word.as_slice()),
-            ),
-            Query::Phrase(field, words) => field.has(
-                has_phrase(title, words.as_slice()),
-                has_phrase(body, words.as_slice()),
-            ),
-            Query::Begins(field, start) => field.has(
-                has_beginning(title, start.as_slice()),
-                has_beginning(body, start.as_slice()),
-            ),
-            Query::Near(most, a, b) => has_near(body, *most, a.as_slice(), b.as_slice()),
-            Query::Both(a, b) => a.matches(title, body) && b.matches(title, body),
-            Query::Either(a, b) => a.matches(title, body) || b.matches(title, body),
-            Query::But(a, b) => a.matches(title, body) && !b.matches(title, body),
+            Query::Word(field, word) => {
+                in_field(*field, texts, |text| has_word(text, word.as_slice()))
+            }
+            Query::Phrase(field, words) => {
+                in_field(*field, texts, |text| has_phrase(text, words.as_slice()))
+            }
+            Query::Begins(field, start) => {
+                in_field(*field, texts, |text| has_beginning(text, start.as_slice()))
+            }
+            Query::Near(most, a, b) => has_near(texts.body, *most, a.as_slice(), b.as_slice()),
+            Query::Both(a, b) => a.matches(texts) && b.matches(texts),
+            Query::Either(a, b) => a.matches(texts) || b.matches(texts),
+            Query::But(a, b) => a.matches(texts) && !b.matches(texts),
         }
     }
 }

@@ -1,10 +1,16 @@
 use super::*;
+use documents::Texts;
 use std::alloc::{AllocError, Global};
 use std::test::Fail;
 
 const TITLE: &[u8] = b"Coolant";
 
 const BODY: &[u8] = b"Smell of coolant near the aft bearing, no smoke";
+
+// A title and a body together.
+fn texts<'a>(title: &'a [u8], body: &'a [u8]) -> Texts<'a> {
+    Texts { title, body }
+}
 
 // A question for a word in the title or the body.
 fn word(heap: Global, letters: &[u8]) -> Result<Query, AllocError> {
@@ -48,16 +54,16 @@ fn phrases(rt: HostRuntime) -> Result<(), Fail> {
 fn one_thing_and_not_another(rt: HostRuntime) -> Result<(), Fail> {
     let heap = rt.alloc();
     let question = but(heap, word(heap, b"smoke")?, word(heap, b"drill")?)?;
-    assert!(rt; question.matches(TITLE, BODY));
-    assert!(rt; !question.matches(TITLE, TITLE));
-    assert!(rt; !question.matches(b"Drill", BODY));
+    assert!(rt; question.matches(texts(TITLE, BODY)));
+    assert!(rt; !question.matches(texts(TITLE, TITLE)));
+    assert!(rt; !question.matches(texts(b"Drill", BODY)));
     Ok(())
 }
 
 #[test]
 fn in_the_title_alone(rt: HostRuntime) -> Result<(), Fail> {
     let question = Query::Begins(Field::Title, Vec::from_slice(rt.alloc(), b"cool")?);
-    assert!(rt; question.matches(TITLE, b"Smoke"));
-    assert!(rt; !question.matches(b"Smoke", BODY));
+    assert!(rt; question.matches(texts(TITLE, b"Smoke")));
+    assert!(rt; !question.matches(texts(b"Smoke", BODY)));
     Ok(())
 }

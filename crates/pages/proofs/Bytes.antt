@@ -1,11 +1,8 @@
 -- Laws of numbers in bytes: what was spelled is read, and what was read was spelled so. Assumes nothing.
-use Rattle.std.proofs.Common.{◌≡◌, ℕ, zero, suc, ◌+◌, ◌*◌, ◌/◌, ◌%◌, ◌^◌, ◌<◌, Bool, true, false, ◌&&◌, ltb, List, [], ◌∷◌, ◌++◌, length, get_or, refl, ap, ◌∙◌, append-nil, pow-suc, add-one, arith, ltb-true, lt-ltb}
-use Rattle.pages.specs.Bytes.{in_bytes, eight, all_bytes, from_eight}
-
+use Rattle.std.proofs.Common.{◌≡◌, ℕ, zero, suc, ◌+◌, ◌*◌, ◌/◌, ◌%◌, ◌^◌, ◌<◌, true, ltb, List, [], ◌∷◌, ◌++◌, length, get_or, refl, ap, ◌∙◌, append-nil, pow-suc, add-one, arith, ltb-true, lt-ltb}
 -- both parts of a test that is true
-pub and_true : (a b : Bool) → a && b ≡ true → (a ≡ true) × (b ≡ true)
-and_true true b h = (refl, h)
-and_true false b h = let z : ◌≡◌ {A = ℕ} 0 1 = cc in absurd (omega arith)
+pub use Rattle.std.proofs.lemmas.Bool.{and_parts as and_true}
+use Rattle.pages.specs.Bytes.{in_bytes, eight, all_bytes, from_eight}
 
 pub length_in_bytes : (k n : ℕ) (bs : List ℕ) → length (in_bytes k n bs) ≡ k + length bs
 unfolding in_bytes

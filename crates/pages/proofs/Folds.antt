@@ -1,7 +1,11 @@
 -- Laws of the functions on lists: over lists one after the other, of functions that agree, and what a test of every element tells. Assumes nothing.
-use Rattle.std.proofs.Common.{◌≡◌, ℕ, suc, ◌+◌, Bool, true, false, ◌&&◌, ◌⊎◌, List, [], ◌∷◌, ◌++◌, length, sym, refl, ap, ◌∙◌, subst, inl, inr, ⊎_elim, arith}
+use Rattle.std.proofs.Common.{◌≡◌, ℕ, ◌+◌, Bool, true, false, ◌&&◌, ◌⊎◌, List, [], ◌∷◌, ◌++◌, length, sym, refl, ap, ◌∙◌, subst, inl, inr, ⊎_elim, arith}
 use Rattle.std.specs.List.{AllByRecursion}
 use Rattle.std.proofs.lemmas.Bool.{and_parts, and_from, cases_Bool, true≢false}
+use Rattle.std.proofs.lemmas.List.{length-map}
+pub use Rattle.std.proofs.lemmas.List.{map-append as each_append}
+pub use Rattle.std.proofs.lemmas.List.Elements.{filter-append as those_append}
+pub use Rattle.std.proofs.lemmas.List.Folds.{list_any-append as any_append, list_all-append as every_append}
 use Rattle.pages.specs.Lists.{pick, or, every, any, each, those, added_up}
 
 -- what `or` tells
@@ -42,34 +46,12 @@ those_same p q h [] = refl
 those_same p q h (x ∷ xs) = ap (λ b. pick b (x ∷ those p xs) (those p xs)) (h x) ∙ ap (λ ys. pick (q x) (x ∷ ys) ys) (those_same p q h xs)
 
 -- one list after the other
-pub each_append : {A B : Type 0} (f : A → B) (xs ys : List A) → each f (xs ++ ys) ≡ each f xs ++ each f ys
-each_append f [] ys = refl
-each_append f (x ∷ xs) ys = ap (λ zs. f x ∷ zs) (each_append f xs ys)
-
-pub those_append : {A : Type 0} (p : A → Bool) (xs ys : List A) → those p (xs ++ ys) ≡ those p xs ++ those p ys
-those_append p [] ys = refl
-those_append p (x ∷ xs) ys =
-    ap (λ zs. pick (p x) (x ∷ zs) zs) (those_append p xs ys)
-    ∙ (elim (p x) as (λ b. pick b (x ∷ those p xs ++ those p ys) (those p xs ++ those p ys) ≡ pick b (x ∷ those p xs) (those p xs) ++ those p ys) [ true ↦ refl | false ↦ refl ])
-
 pub added_up_append : {A : Type 0} (f : A → ℕ) (xs ys : List A) → added_up f (xs ++ ys) ≡ added_up f xs + added_up f ys
 added_up_append f [] ys = omega arith
 added_up_append f (x ∷ xs) ys = omega (arith, added_up_append f xs ys)
 
-pub any_append : {A : Type 0} (p : A → Bool) (xs ys : List A) → any p (xs ++ ys) ≡ or (any p xs) (any p ys)
-any_append p [] ys = refl
-any_append p (x ∷ xs) ys =
-    ap (or (p x)) (any_append p xs ys) ∙ (elim (p x) as (λ b. or b (or (any p xs) (any p ys)) ≡ or (or b (any p xs)) (any p ys)) [ true ↦ refl | false ↦ refl ])
-
-pub every_append : {A : Type 0} (p : A → Bool) (xs ys : List A) → every p (xs ++ ys) ≡ (every p xs && every p ys)
-every_append p [] ys = refl
-every_append p (x ∷ xs) ys =
-    ap (λ b. p x && b) (every_append p xs ys)
-    ∙ (elim (p x) as (λ b. (b && (every p xs && every p ys)) ≡ ((b && every p xs) && every p ys)) [ true ↦ refl | false ↦ refl ])
-
 pub length_each : {A B : Type 0} (f : A → B) (xs : List A) → length (each f xs) ≡ length xs
-length_each f [] = refl
-length_each f (x ∷ xs) = ap suc (length_each f xs)
+length_each f xs = length-map xs f
 
 -- a test of every element, and what holds of every element
 pub all_from_every : {A : Type 0} (p : A → Bool) (xs : List A) → every p xs ≡ true → AllByRecursion (λ x. p x ≡ true) xs

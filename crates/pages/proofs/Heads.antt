@@ -8,11 +8,12 @@ use Rattle.pages.specs.Bytes.{eight, all_bytes, from_eight}
 use Rattle.pages.specs.Device.{Page, half, a_page}
 use Rattle.pages.specs.Places.{number_at, written, in_eights}
 use Rattle.pages.specs.declared.roots.Head.{Head}
-use Rattle.pages.specs.Head.{segment_at, root_at, head_at, head_numbers, head_page, fits_eights, copies_agree, read_head, empty_head, HeadsKept}
+use Rattle.pages.specs.Head.{segment_at, root_at, head_at, head_in, head_numbers, head_page, fits_eights, copies_agree, read_head, empty_head, HeadsKept}
 use Rattle.pages.proofs.Bytes.{and_true, length_eight, eight_is_bytes, from_eight_eight}
 use Rattle.pages.proofs.Folds.{every_append}
 use Rattle.pages.proofs.Device.{take_half, drop_half, zeros_bytes}
-use Rattle.pages.proofs.Places.{length_in_eights, number_at_fits}
+use borrow.Rule.Slice.PartMut.{put_mid}
+use Rattle.pages.proofs.Places.{length_in_eights, number_at_fits, written_part}
 
 -- what is read: by cases
 pub read_agreeing : (p : Page) → length p ≡ 512 → copies_agree p ≡ true → read_head p ≡ Some (head_at p 0)
@@ -34,11 +35,6 @@ same_decides = compares_Decides same (search rules)
 pub same_is : (xs ys : List ℕ) (r : Bool) → Decides r (xs ≡ ys) → r ≡ same xs ys
 same_is xs ys r h = let s = same_decides xs ys in search (rules, s, h)
 
-pub zeros_replicate : (n : ℕ) → replicate n 0 ≡ zeros n
-unfolding zeros
-zeros_replicate zero = refl
-zeros_replicate (suc n) = ap (λ xs. 0 ∷ xs) (zeros_replicate n)
-
 -- a write over as many bytes, where they stand between others
 pub written_over : (p xs ys q : List ℕ) (at : ℕ) → length p ≡ at → length xs ≡ length ys → written (p ++ (xs ++ q)) at ys ≡ p ++ (ys ++ q)
 unfolding written
@@ -49,16 +45,16 @@ written_over p xs ys q at l e =
     ap (λ x. x ++ (ys ++ drop (at + length ys) (p ++ (xs ++ q)))) t ∙ ap (λ x. p ++ (ys ++ x)) d
 
 -- both copies, written over zeros
-pub head_page_written : (h : Head) → written (written (replicate 512 0) 0 (in_eights (head_numbers h))) 256 (in_eights (head_numbers h)) ≡ head_page h
+pub head_page_made : (h : Head) {z a b : List ℕ} → z ≡ replicate 512 0 → a ≡ in_eights (head_numbers h) → b ≡ in_eights (head_numbers h)
+    → put_mid 256 168 (a ++ drop 168 z) b ≡ head_page h
 unfolding head_page zeros
-head_page_written h =
+head_page_made h {z} {a} {b} p q r =
     let c : List ℕ = in_eights (head_numbers h) in
     let l : length c ≡ 168 = length_in_eights (head_numbers h) in
-    let one : written (zeros 512) 0 c ≡ c ++ zeros 344 = written_over [] (zeros 168) c (zeros 344) 0 refl (sym l) in
     let m : length (c ++ zeros 88) ≡ 256 = length-append c (zeros 88) ∙ ap (λ n. n + 88) l in
-    let e : c ++ zeros 344 ≡ (c ++ zeros 88) ++ (zeros 168 ++ zeros 88) = sym (append_assoc c (zeros 88) (zeros 256)) in
+    let e : a ++ drop 168 z ≡ (c ++ zeros 88) ++ (zeros 168 ++ zeros 88) = ap (λ xs. a ++ drop 168 xs) p ∙ ap (λ xs. xs ++ zeros 344) q ∙ sym (append_assoc c (zeros 88) (zeros 256)) in
     let two : written ((c ++ zeros 88) ++ (zeros 168 ++ zeros 88)) 256 c ≡ (c ++ zeros 88) ++ (c ++ zeros 88) = written_over (c ++ zeros 88) (zeros 168) c (zeros 88) 256 m (sym l) in
-    ap (λ z. written (written z 0 c) 256 c) (zeros_replicate 512) ∙ ap (λ z. written z 256 c) (one ∙ e) ∙ two ∙ append_assoc c (zeros 88) (c ++ zeros 88)
+    written_part (a ++ drop 168 z) 256 168 r (sym l) ∙ ap (λ xs. written xs 256 c) e ∙ two ∙ append_assoc c (zeros 88) (c ++ zeros 88)
 
 -- THE PAGE OF A HEAD: two copies of 168 bytes, each with zeros up to 256
 copy_length : (h : Head) → length (in_eights (head_numbers h)) ≡ 168
@@ -116,9 +112,10 @@ number_among (n ∷ ns) rest (suc i) f h =
     ∙ ap (λ x. from_eight 0 (take 8 (drop (8 * i) x))) (ap (drop 8) (append_assoc (eight n) (in_eights ns) rest) ∙ drop_at (eight n) (in_eights ns ++ rest) 8 (length_eight n))
     ∙ number_among ns rest i e.1 (omega arith)
 
-pub head_at_numbers : (p : Page) (h : Head) → ((i : ℕ) → i < 21 → number_at p (8 * i) ≡ get_or (head_numbers h) i 0) → head_at p 0 ≡ h
+-- the head whose numbers stand at the front of a page
+pub head_at_in : (p : Page) (ns : List ℕ) → ((i : ℕ) → i < 21 → get_or ns i 0 ≡ number_at p (8 * i)) → head_in ns 0 ≡ head_at p 0
 unfolding head_at root_at segment_at
-head_at_numbers p h f =
+head_at_in p ns f =
     simp (
       f 0 (lit< tt),
       f 1 (lit< tt),
@@ -145,7 +142,7 @@ head_at_numbers p h f =
 
 pub head_at_page : (h : Head) → fits_eights h ≡ true → head_at (head_page h) 0 ≡ h
 unfolding head_page fits_eights
-head_at_page h f = head_at_numbers (head_page h) h (λ i l. number_among (head_numbers h) _ i f l)
+head_at_page h f = sym (head_at_in (head_page h) (head_numbers h) (λ i l. sym (number_among (head_numbers h) _ i f l)))
 
 pub read_written : (h : Head) → fits_eights h ≡ true → read_head (head_page h) ≡ Some h
 read_written h f = read_agreeing (head_page h) (length_head_page h) (head_page_agrees h) ∙ ap Some (head_at_page h f)

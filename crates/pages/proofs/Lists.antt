@@ -1,6 +1,7 @@
 -- Laws of the functions on lists: `same` is equality, `earlier` is a strict total order, and what `every` and `each` say of parts.
-use Rattle.std.proofs.Common.{◌≡◌, ℕ, zero, suc, ◌<◌, Bool, true, false, eqb, ◌⊎◌, List, [], ◌∷◌, ◌++◌, take, drop, sym, refl, ap, ◌∙◌, subst, inl, inr, ⊎_elim, arith, le-ltb, lt-ltb, eq-eqb, ne_eqb}
+use Rattle.std.proofs.Common.{◌≡◌, ℕ, zero, suc, ◌<◌, Bool, true, false, eqb, ◌⊎◌, List, [], ◌∷◌, ◌++◌, take, drop, sym, refl, ◌∙◌, subst, inl, inr, ⊎_elim, arith, le-ltb, lt-ltb, eq-eqb, ne_eqb}
 use Rattle.std.proofs.lemmas.Bool.{cases_order, and_parts, eqb-true, cases_Bool, both_ways}
+use Rattle.std.proofs.lemmas.List.{take-map, drop-map}
 use Rattle.pages.specs.Lists.{every, each, same, earlier, zeros}
 
 -- `same` is equality
@@ -109,14 +110,10 @@ every_drop p (suc n) [] h = refl
 every_drop p (suc n) (x ∷ a) h = every_drop p n a (and_parts (p x) (every p a) h).1
 
 pub each_take : {A B : Type 0} (f : A → B) (n : ℕ) (a : List A) → each f (take n a) ≡ take n (each f a)
-each_take f zero a = refl
-each_take f (suc n) [] = refl
-each_take f (suc n) (x ∷ a) = ap (λ r. f x ∷ r) (each_take f n a)
+each_take f n a = sym (take-map f n a)
 
 pub each_drop : {A B : Type 0} (f : A → B) (n : ℕ) (a : List A) → each f (drop n a) ≡ drop n (each f a)
-each_drop f zero a = refl
-each_drop f (suc n) [] = refl
-each_drop f (suc n) (x ∷ a) = each_drop f n a
+each_drop f n a = sym (drop-map f n a)
 
 -- zeros are zeros
 pub zeros_zero : (n : ℕ) → every (λ m. eqb m 0) (zeros n) ≡ true

@@ -1,6 +1,8 @@
 -- Laws of bytes written at a place. Assumes nothing.
 use Rattle.std.proofs.Common.{◌≡◌, ℕ, zero, suc, ◌+◌, ◌*◌, ◌/◌, ◌%◌, ◌^◌, ◌<◌, ◌≤◌, Bool, true, ltb, List, [], ◌∷◌, ◌++◌, length, get_or, take, drop, set, sym, refl, ap, ◌∙◌, append_assoc, mul-le-mul_right, mul_assoc, arith, length-append, length-drop, length-take, ltb-true}
 use native.Mathlib.Nat.{pow-succ', div-div-eq-div-mul, pow-le-pow_right}
+use borrow.Rule.Slice.PartMut.{put_mid}
+use Rattle.std.specs.Int.{w64, byte_at, bytes_high_first, to_be_bytes}
 use Rattle.std.proofs.lemmas.List.{take-append-drop, take_at, drop_at, drop-drop, set_at, take_more, length-take-le}
 use Rattle.std.proofs.ByRecursion.{All-take, All-drop}
 use Rattle.pages.specs.Bytes.{in_bytes, eight, all_bytes, from_eight}
@@ -49,22 +51,31 @@ in_bytes_above (suc k) n bs =
     let e : n / 256 / 256 ^ k ≡ n / 256 ^ suc k = div-div-eq-div-mul n 256 (256 ^ k) ∙ ap (λ m. n / m) (sym (pow-succ' 256 k)) in
     in_bytes_above k (n / 256) (n % 256 ∷ bs) ∙ ap (λ m. m % 256 ∷ in_bytes k (n / 256) (n % 256 ∷ bs)) e
 
--- the same, of what three lists were in turn
+-- the eight bytes are the library's
+byte_above : (k n : ℕ) → (n / 256 ^ k) % 256 ≡ byte_at k n
+byte_above zero n = let e : n / 1 ≡ n = omega arith in ap (λ m. m % 256) e
+byte_above (suc k) n = refl
+
+pub in_bytes_high : (k n : ℕ) → in_bytes k n [] ≡ bytes_high_first k n
+unfolding in_bytes
+in_bytes_high zero n = refl
+in_bytes_high (suc k) n = in_bytes_above k n [] ∙ ap (λ b. b ∷ in_bytes k n []) (byte_above k n) ∙ ap (λ bs. byte_at k n ∷ bs) (in_bytes_high k n)
+
+pub eight_is : (n : ℕ) → eight n ≡ to_be_bytes w64 n
+eight_is n = in_bytes_high 8 n
+
+-- a slice after a write to its part of k elements at a place
+pub written_part : (out : List ℕ) (at k : ℕ) {ys bs : List ℕ} → ys ≡ bs → k ≡ length bs → put_mid at k out ys ≡ written out at bs
+unfolding written
+written_part out at k {ys} {bs} e l = ap (λ zs. put_mid at k out zs) e ∙ ap (λ zs. take at out ++ (bs ++ zs)) (drop-drop k at out ∙ ap (λ n. drop n out) (ap (λ m. at + m) l))
+
+-- one write after another, of what three lists were in turn
 pub written_then : (o₀ : List ℕ) {o₁ o₂ : List ℕ} (at n : ℕ) (xs ys : List ℕ) → at ≤ length o₀ → n ≡ at + length xs → o₁ ≡ written o₀ at xs → o₂ ≡ written o₁ n ys → o₂ ≡ written o₀ at (xs ++ ys)
 written_then o₀ {o₁} {o₂} at n xs ys h e p q = let w = written_written o₀ at xs ys h in cc
 
 pub length_in_eights : (ns : List ℕ) → length (in_eights ns) ≡ 8 * length ns
 length_in_eights [] = refl
 length_in_eights (n ∷ ns) = simp (length-append, length_eight) (omega (arith, length_in_eights ns))
-
-pub in_eights_append : (xs ys : List ℕ) → in_eights (xs ++ ys) ≡ in_eights xs ++ in_eights ys
-in_eights_append [] ys = refl
-in_eights_append (x ∷ xs) ys = ap (λ z. eight x ++ z) (in_eights_append xs ys) ∙ sym (append_assoc (eight x) (in_eights xs) (in_eights ys))
-
--- numbers written after numbers
-pub numbers_then : (o₀ : List ℕ) {o₁ o₂ : List ℕ} (at n : ℕ) (xs ys : List ℕ) → at ≤ length o₀ → n ≡ at + 8 * length xs → o₁ ≡ written o₀ at (in_eights xs) → o₂ ≡ written o₁ n (in_eights ys)
-    → o₂ ≡ written o₀ at (in_eights (xs ++ ys))
-numbers_then o₀ at n xs ys h e p q = written_then o₀ at n (in_eights xs) (in_eights ys) h (omega (arith, length_in_eights xs)) p q ∙ ap (written o₀ at) (sym (in_eights_append xs ys))
 
 -- what bytes spell over a number, and what eight of them spell
 pub from_eight_below : (bs : List ℕ) (a : ℕ) → all_bytes bs ≡ true → from_eight a bs < (a + 1) * 256 ^ length bs

@@ -1,7 +1,7 @@
 -- The head of a device: which root stands, with four segments below it. Assumes nothing: these are definitions.
 -- Pages 0 and 1 of a device are head pages. A head page has the head's 21 numbers of eight bytes at byte 0 and once more at byte 256; all other bytes
 -- are 0. A write that a stop tore leaves the first 256 bytes of the new page beside the last 256 of the old one: then the copies differ.
-use Rattle.std.specs.Prelude.{◌≡◌, ℕ, ◌+◌, Bool, true, ◌&&◌, List, [], ◌∷◌, ◌++◌, length, take, drop, Some, None, Option, ◌==◌, ◌≢◌, nat_lt}
+use Rattle.std.specs.Prelude.{◌≡◌, ℕ, ◌+◌, Bool, true, ◌&&◌, List, [], ◌∷◌, ◌++◌, length, take, drop, Some, None, Option, ◌==◌, ◌≢◌, nat_lt, slice_index}
 use Rattle.pages.specs.declared.roots.Segment.{Segment}
 use Rattle.pages.specs.declared.roots.Root.{Root}
 use Rattle.pages.specs.declared.roots.Head.{Head}
@@ -20,6 +20,24 @@ root_numbers r =
 
 abbrev pub head_numbers : Head → List ℕ
 head_numbers h = h.sequence ∷ h.half ∷ h.end ∷ root_numbers h.root
+
+-- the parts of a head that numbers stand for, from a place on
+abbrev pub segment_in : List ℕ → ℕ → Segment
+segment_in ns at = record { start = slice_index ns at; rows = slice_index ns (at + 1); bytes = slice_index ns (at + 2); docs = slice_index ns (at + 3) }
+
+abbrev pub root_in : List ℕ → ℕ → Root
+root_in ns at =
+    record {
+      count = slice_index ns at;
+      weight = slice_index ns (at + 1);
+      first = segment_in ns (at + 2);
+      second = segment_in ns (at + 6);
+      third = segment_in ns (at + 10);
+      fourth = segment_in ns (at + 14);
+    }
+
+abbrev pub head_in : List ℕ → ℕ → Head
+head_in ns at = record { sequence = slice_index ns at; half = slice_index ns (at + 1); end = slice_index ns (at + 2); root = root_in ns (at + 3) }
 
 unfoldable pub head_page : Head → Page
 head_page h = in_eights (head_numbers h) ++ (zeros 88 ++ (in_eights (head_numbers h) ++ zeros 88))

@@ -1,33 +1,27 @@
 -- Functions on lists that the definitions of every crate are written with. Assumes nothing: these are definitions.
-use Rattle.std.specs.Prelude.{ℕ, zero, suc, ◌+◌, Bool, true, false, ◌&&◌, List, [], ◌∷◌, ◌++◌, ◌==◌, nat_lt}
+use Rattle.std.specs.Prelude.{ℕ, ◌+◌, Bool, true, false, cond, ◌&&◌, ◌||◌, List, [], ◌∷◌, map, replicate, filter, flat_map, ◌==◌, nat_lt}
+use Rattle.std.specs.List.{list_all, list_any}
 
 abbrev pub pick : {A : Type 0} → Bool → A → A → A
-pick true a b = a
-pick false a b = b
+pick b x y = cond b x y
 
 abbrev pub or : Bool → Bool → Bool
-or true b = true
-or false b = b
+or a b = a || b
 
 abbrev pub every : {A : Type 0} → (A → Bool) → List A → Bool
-every p [] = true
-every p (x ∷ xs) = p x && every p xs
+every p xs = list_all p xs
 
 abbrev pub any : {A : Type 0} → (A → Bool) → List A → Bool
-any p [] = false
-any p (x ∷ xs) = or (p x) (any p xs)
+any p xs = list_any p xs
 
 abbrev pub each : {A B : Type 0} → (A → B) → List A → List B
-each f [] = []
-each f (x ∷ xs) = f x ∷ each f xs
+each f xs = map f xs
 
 abbrev pub those : {A : Type 0} → (A → Bool) → List A → List A
-those p [] = []
-those p (x ∷ xs) = pick (p x) (x ∷ those p xs) (those p xs)
+those p xs = filter p xs
 
 abbrev pub flat : {A B : Type 0} → (A → List B) → List A → List B
-flat f [] = []
-flat f (x ∷ xs) = f x ++ flat f xs
+flat f xs = flat_map f xs
 
 abbrev pub added_up : {A : Type 0} → (A → ℕ) → List A → ℕ
 added_up f [] = 0
@@ -55,5 +49,4 @@ starts_with (p ∷ ps) [] = false
 starts_with (p ∷ ps) (w ∷ ws) = p == w && starts_with ps ws
 
 unfoldable pub zeros : ℕ → List ℕ
-zeros zero = []
-zeros (suc n) = 0 ∷ zeros n
+zeros n = replicate n 0

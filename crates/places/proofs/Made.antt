@@ -1,38 +1,21 @@
 -- Laws for the making of tokens. Assumes nothing.
-use Rattle.std.proofs.Common.{◌≡◌, ℕ, suc, ◌+◌, ◌-◌, ◌*◌, ◌/◌, ◌%◌, ◌<◌, ◌≤◌, true, leb, List, [], ◌∷◌, ◌++◌, length, take, drop, set, sym, refl, ap, ◌∙◌, subst, append_assoc, append-nil, arith, length-take}
+use Rattle.std.proofs.Common.{◌≡◌, ℕ, ◌+◌, ◌*◌, ◌/◌, ◌%◌, ◌<◌, ◌≤◌, true, leb, List, [], ◌∷◌, ◌++◌, length, take, drop, get_or, set, sym, refl, ap, ◌∙◌, subst, append_assoc, arith, length-take, length-append}
 use Rattle.std.specs.List.{AllByRecursion}
-use Rattle.std.proofs.lemmas.List.{take_more_set, take-set-le, drop-append-le, drop-set-lt, drop-drop, drop_all, take-take, take-append-drop}
+use Rattle.std.proofs.lemmas.List.{take_more, take_more_set, drop-drop, take_at, drop_at, get_or-map}
 use Rattle.std.proofs.ByRecursion.{All-weaker}
 use Rattle.std.proofs.lemmas.Bool.{lt-ltb, le-ltb, le-leb, leb-true, and_from, and_parts}
 use Rattle.pages.specs.Lists.{pick, every, each}
 use Rattle.pages.proofs.Folds.{each_append}
 use Rattle.words.specs.Words.{words}
 use Rattle.words.specs.Stretches.{to_come, word_at, Found}
+use Rattle.words.specs.Standing.{word_of, standing}
 use Rattle.words.specs.declared.Word.{Word}
-use Rattle.words.proofs.Laws.{come_from_start, words_few, words_every}
-use Rattle.rows.specs.Rows.{Row}
+use Rattle.words.proofs.Laws.{come_from_start, found_bounds, words_few, words_every}
+use Rattle.words.proofs.Standing.{length_standing, standing_bytes, standing_found}
+use Rattle.rows.specs.declared.Row.{Row}
 use Rattle.places.specs.Places.{placed}
 use Rattle.places.specs.Tokens.{first_word, key_at, token_place, text_row, token_row, rows_of_tokens, Added, tokens_fit, Indexed}
 use Rattle.places.proofs.Numbered.{placed_places, every_true}
-
--- while tokens are put: those that are there and the words to come are all of them
-pub record Adding (text : List ℕ) (base from : ℕ) (before : List ℕ) (n at : ℕ) (now : List ℕ) : Type 0 where
-  pub ahead : from ≤ n
-  pub counted : n - from + length (to_come text at) ≡ length (words text)
-  pub rows : (doc : ℕ) → each (text_row doc text) (drop from (take n now)) ++ placed doc (base + (n - from)) (to_come text at) ≡ placed doc base (words text)
-  pub front : take from now ≡ take from before
-  pub rest : drop n now ≡ drop n before
-
-pub adding_none : (text : List ℕ) (base from : ℕ) (ts : List ℕ) → Adding text base from ts from 0 ts
-adding_none text base from ts =
-    let none : drop from (take from ts) ≡ [] = drop_all from (take from ts) (omega (arith, length-take from ts)) in
-    record {
-      ahead = omega arith;
-      counted = omega arith;
-      rows = λ doc. (λ i. each (text_row doc text) (none i) ++ placed doc (base + (from - from)) (words text)) ∙ ap (λ p. placed doc p (words text)) (omega arith);
-      front = refl;
-      rest = refl;
-    }
 
 -- a token that is put says where its word begins and its place
 token_reads : (text : List ℕ) (doc at p : ℕ) (w : Word) → Found text at w → p < 65536 → (t : ℕ) → t ≡ w.start * 65536 + p →
@@ -44,50 +27,54 @@ token_reads text doc at p w f l t e =
     ap (λ s. first_word (to_come text s)) start ∙ ap first_word (sym (come_from_start text at w.start f.starts) ∙ f.comes) in
     λ i. record { key = key i; doc = doc; place = place i }
 
-module _ (text : List ℕ) (base from : ℕ) (before : List ℕ) (n at : ℕ) (ts : List ℕ) (inv : Adding text base from before n at ts) where
-  pub adding_more : (w : Word) (t : ℕ) → Found text at w → base + length (words text) ≤ 65536 → from + length (words text) ≤ length ts → t ≡ w.start * 65536 + (base + (n - from)) →
-      Adding text base from before (n + 1) w.end (set ts n t)
-  unfolding placed
-  adding_more w t f fits room e =
-      let ahead = inv.ahead in
-      let counted = inv.counted in
-      let one : length (to_come text at) ≡ suc (length (to_come text w.end)) = ap length f.comes in
-      let h : n < length ts = omega arith in
-      let made : drop from (take (n + 1) (set ts n t)) ≡ drop from (take n ts) ++ t ∷ [] =
-      ap (drop from) (take_more_set ts n t h) ∙ drop-append-le from (take n ts) (t ∷ []) (omega (arith, length-take n ts)) in
-      let p = base + (n - from) in
-      record {
-        ahead = omega arith;
-        counted = omega arith;
-        rows = λ doc.
-            let F = text_row doc text in
-            let r : Row = record { key = word_at text w.start w.len; doc = doc; place = p } in
-            let reads : F t ≡ r = token_reads text doc at p w f (omega arith) t e in
-            let next : p + 1 ≡ base + (n + 1 - from) = omega arith in
-            ap (λ ys. each F ys ++ placed doc (base + (n + 1 - from)) (to_come text w.end)) made
-            ∙ ap (λ ys. ys ++ placed doc (base + (n + 1 - from)) (to_come text w.end)) (each_append F (drop from (take n ts)) (t ∷ []))
-            ∙ append_assoc (each F (drop from (take n ts))) (F t ∷ []) _
-            ∙ (λ i. each F (drop from (take n ts)) ++ reads i ∷ placed doc (sym next i) (to_come text w.end))
-            ∙ ap (λ ws. each F (drop from (take n ts)) ++ placed doc p ws) (sym f.comes)
-            ∙ inv.rows doc;
-        front = take-set-le from ts n t ahead ∙ inv.front;
-        rest = drop-set-lt (n + 1) ts n t (omega arith) ∙ sym (drop-drop 1 n ts) ∙ ap (drop 1) inv.rest ∙ drop-drop 1 n before;
-      }
+placed_append : (doc p : ℕ) (us vs : List (List ℕ)) → placed doc p (us ++ vs) ≡ placed doc p us ++ placed doc (p + length us) vs
+unfolding placed
+placed_append doc p [] vs = ap (λ n. placed doc n vs) (omega arith)
+placed_append doc p (u ∷ us) vs =
+    ap (λ rs. record { key = u; doc = doc; place = p } ∷ rs)
+    (placed_append doc (p + 1) us vs ∙ ap (λ n. placed doc (p + 1) us ++ placed doc n vs) (omega arith))
 
-  pub adding_all : to_come text at ≡ [] → Added text base from before n ts
+-- the first `k` tokens are those of the first `k` words
+abbrev pub Adding : List ℕ → ℕ → ℕ → List ℕ → Type 0
+Adding text base k ts = (doc : ℕ) → each (text_row doc text) (take k ts) ≡ placed doc base (take k (words text))
+
+pub adding_none : (text : List ℕ) (base : ℕ) (ts : List ℕ) → Adding text base 0 ts
+unfolding placed
+adding_none text base ts doc = refl
+
+module _ (text : List ℕ) (base k : ℕ) (w : Word) (h : k < length (words text)) (stands : w ≡ get_or (standing text 0) k w) where
+  -- the bytes of the word that stands at a place are the word there
+  bytes_there : word_of text w ≡ get_or (words text) k []
+  bytes_there =
+      let m : k < length (standing text 0) = omega (arith, length_standing text 0) in
+      ap (word_of text) stands ∙ sym (get_or-map (word_of text) (standing text 0) k w [] m) ∙ ap (λ ws. get_or ws k []) (standing_bytes text 0)
+
+  pub adding_more : (ts : List ℕ) (t : ℕ) → k < length ts → base + length (words text) ≤ 65536 → t ≡ w.start * 65536 + (base + k) → Adding text base k ts → Adding text base (k + 1) (set ts k t)
   unfolding placed
-  adding_all e =
-      let ahead = inv.ahead in
-      let counted = inv.counted in
-      let none = ap length e in
-      record {
-        counted = omega arith;
-        rows = λ doc.
-            let F = text_row doc text in
-            sym (append-nil (each F (drop from (take n ts)))) ∙ ap (λ ws. each F (drop from (take n ts)) ++ placed doc (base + (n - from)) ws) (sym e) ∙ inv.rows doc;
-        front = inv.front;
-        rest = inv.rest;
-      }
+  adding_more ts t room fits e adding doc =
+      let m : k < length (standing text 0) = omega (arith, length_standing text 0) in
+      let there = standing_found text 0 k w m in
+      let P : Word → Type 0 = λ v. Found text there.0 v in
+      let found : Found text there.0 w = subst P (sym stands) there.1 in
+      let F = text_row doc text in
+      let ws = take k (words text) in
+      let v = get_or (words text) k [] in
+      let long : base + length ws ≡ base + k = omega (arith, length-take k (words text)) in
+      let reads : F t ≡ record { key = word_of text w; doc = doc; place = base + k } = token_reads text doc there.0 (base + k) w found (omega arith) t e in
+      ap (each F) (take_more_set ts k t room) ∙ each_append F (take k ts) (t ∷ [])
+      ∙ (λ i. adding doc i ++ reads i ∷ [])
+      ∙ (λ i. placed doc base ws ++ record { key = bytes_there i; doc = doc; place = sym long i } ∷ [])
+      ∙ sym (placed_append doc base ws (v ∷ []))
+      ∙ ap (placed doc base) (sym (take_more (words text) k [] h))
+
+  -- its place fits a token
+  pub start_fits : length text ≤ 65535 → w.start < 65536
+  start_fits l =
+      let m : k < length (standing text 0) = omega (arith, length_standing text 0) in
+      let there = standing_found text 0 k w m in
+      let P : Word → Type 0 = λ v. Found text there.0 v in
+      let bounds = found_bounds text there.0 w (subst P (sym stands) there.1) in
+      omega arith
 
 -- the tokens of a title have places below 32768, those of a body from 32768 on
 each_agrees : {A B : Type 0} (f g : A → B) (xs : List A) → AllByRecursion (λ x. f x ≡ g x) xs → each f xs ≡ each g xs
@@ -118,23 +105,22 @@ module _ (doc : ℕ) (title body ts : List ℕ) where
       ∙ e
 
 -- first those of the title, then those of the body
-pub indexed_both : (title body ts us vs : List ℕ) (m n : ℕ) → length title ≤ 65535 → length (words title) + length (words body) ≤ length ts → Added title 0 0 ts m us → Added body 32768 m us n vs → Indexed title body ts n vs
-indexed_both title body ts us vs m n l room a b =
+pub indexed_both : (title body ts us vs after : List ℕ) (n m : ℕ) → length title ≤ 65535 → n ≡ length (words title) → m ≡ length (words body) → n + m ≤ length ts →
+    length us ≡ n → length vs ≡ m → Added title 0 us → Added body 32768 vs → after ≡ us ++ (vs ++ drop m (drop n ts)) → Indexed title body ts (n + m) after
+indexed_both title body ts us vs after n m l e f room lu lv a b g =
     let few = words_few title in
-    let c = a.counted in
-    let d = b.counted in
-    let up : m ≤ n = omega arith in
+    let all : after ≡ (us ++ vs) ++ drop m (drop n ts) = g ∙ sym (append_assoc us vs _) in
+    let long : length (us ++ vs) ≡ n + m = omega (arith, length-append us vs) in
     record {
       counted = omega arith;
-      within = omega arith;
+      within = room;
       few = omega arith;
       rows = λ doc.
-          let F = token_row doc title body in
-          let front : take m (take n vs) ≡ take m us = take-take m n vs up ∙ b.front in
-          ap (each F) (sym (take-append-drop m (take n vs))) ∙ each_append F (take m (take n vs)) (drop m (take n vs))
-          ∙ (λ i. each F (front i) ++ each F (drop m (take n vs)))
-          ∙ (λ i. title_tokens doc title body (take m us) (omega arith) (a.rows doc) i ++ body_tokens doc title body (drop m (take n vs)) (b.rows doc) i);
-      rest = b.rest ∙ sym (ap (λ k. drop k us) (omega arith)) ∙ sym (drop-drop (n - m) m us) ∙ ap (drop (n - m)) a.rest ∙ drop-drop (n - m) m ts ∙ ap (λ k. drop k ts) (omega arith);
+          ap (λ xs. rows_of_tokens doc title body (take (n + m) xs)) all
+          ∙ ap (rows_of_tokens doc title body) (take_at (us ++ vs) (drop m (drop n ts)) (n + m) long)
+          ∙ each_append (token_row doc title body) us vs
+          ∙ (λ i. title_tokens doc title body us (omega arith) (a doc) i ++ body_tokens doc title body vs (b doc) i);
+      rest = ap (drop (n + m)) all ∙ drop_at (us ++ vs) (drop m (drop n ts)) (n + m) long ∙ drop-drop m n ts;
     }
 
 pub fit_from : (title body : List ℕ) (room : ℕ) → length title ≤ 65535 → length body ≤ 65535 → length (words title) + length (words body) ≤ room → tokens_fit title body room ≡ true

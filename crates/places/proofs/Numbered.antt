@@ -12,7 +12,8 @@ use Rattle.pages.proofs.Perm.{perm_all}
 use Rattle.pages.proofs.Sorted.{Different}
 use Rattle.words.specs.Words.{in_word, small, words}
 use Rattle.words.proofs.Laws.{words_every}
-use Rattle.rows.specs.Rows.{Row, row_less, row_size, rows_size}
+use Rattle.rows.specs.declared.Row.{Row}
+use Rattle.rows.specs.Rows.{row_less, row_size, rows_size}
 use Rattle.rows.proofs.Ordered.{less_from, less_one_way, less_irreflexive}
 use Rattle.documents.specs.Document.{Doc}
 use Rattle.documents.specs.Room.{row_bytes}

@@ -6,7 +6,8 @@ use Rattle.std.proofs.lemmas.Bool.{cases_Bool, both_ways}
 use Rattle.pages.specs.Lists.{pick}
 use Rattle.pages.proofs.Perm.{Perm, keep, swap, then, In, perm_refl, perm_sym, perm_before, perm_after, perm_all, perm_in}
 use Rattle.pages.proofs.Sorted.{Pairwise, Different, perm_pairwise, pairwise_weaker, sorted_perm, sorted_same}
-use Rattle.rows.specs.Rows.{Row, row_less}
+use Rattle.rows.specs.declared.Row.{Row}
+use Rattle.rows.specs.Rows.{row_less}
 use Rattle.rows.specs.Cursors.{together}
 use Rattle.rows.specs.Merging.{Rising, merge_rows}
 use Rattle.rows.proofs.Ordered.{less_one_way, less_transitive, less_cases, less_irreflexive}

@@ -3,7 +3,8 @@ use Rattle.std.specs.Prelude.{◌≡◌, ℕ, ◌+◌, ◌≤◌, List, ◌∷�
 use Rattle.pages.proofs.Perm.{Perm, In}
 use Rattle.pages.proofs.Sorted.{Different}
 use Rattle.words.specs.Words.{words}
-use Rattle.rows.specs.Rows.{Row, rows_size}
+use Rattle.rows.specs.declared.Row.{Row}
+use Rattle.rows.specs.Rows.{rows_size}
 use Rattle.rows.specs.Merging.{Rising, merge_rows}
 use Rattle.documents.specs.Document.{Doc, long}
 use Rattle.documents.specs.Room.{row_bytes}

@@ -3,7 +3,8 @@ use Rattle.std.specs.Prelude.{ℕ, ◌+◌, List, [], ◌∷◌, ◌++◌}
 use Rattle.pages.specs.Lists.{pick}
 use Rattle.pages.specs.Bytes.{eight}
 use Rattle.words.specs.Words.{words}
-use Rattle.rows.specs.Rows.{Row, row_less}
+use Rattle.rows.specs.declared.Row.{Row}
+use Rattle.rows.specs.Rows.{row_less}
 use Rattle.documents.specs.Document.{Doc}
 
 -- the key of a name: a byte that begins no word, and the name in eight bytes

@@ -1,10 +1,11 @@
 -- Tokens: one number for each word of a document. A token is 65536 times the offset of the word's first byte in the title or in the body, and its place:
 -- a place below 32768 is one in the title, any other one in the body. Assumes nothing: these are definitions.
-use Rattle.std.specs.Prelude.{◌≡◌, ℕ, ◌+◌, ◌/◌, ◌%◌, ◌<◌, ◌≤◌, Bool, true, false, ◌&&◌, List, [], ◌∷◌, length, take, drop, nat_le, nat_lt, slice_index}
+use Rattle.std.specs.Prelude.{◌≡◌, ℕ, ◌+◌, ◌/◌, ◌%◌, ◌≤◌, Bool, ◌&&◌, List, [], ◌∷◌, length, take, drop, nat_le, nat_lt}
 use Rattle.pages.specs.Lists.{pick, each}
 use Rattle.words.specs.Words.{words}
 use Rattle.words.specs.Stretches.{to_come}
-use Rattle.rows.specs.Rows.{Row, row_less}
+use Rattle.documents.specs.declared.Texts.{Texts}
+use Rattle.rows.specs.declared.Row.{Row}
 use Rattle.places.specs.Places.{name_row, placed, word_rows, doc_rows, sorted_rows}
 
 abbrev pub first_word : List (List ℕ) → List ℕ
@@ -35,12 +36,19 @@ token_key title body t = key_at (token_text title body t) (t / 65536)
 abbrev pub rows_of_tokens : ℕ → List ℕ → List ℕ → List ℕ → List Row
 rows_of_tokens doc title body ts = each (token_row doc title body) ts
 
--- tokens of a text put from a place on: they end at `to`, and nothing else has changed
-pub record Added (text : List ℕ) (base from : ℕ) (before : List ℕ) (to : ℕ) (after : List ℕ) : Type 0 where
-  pub counted : to ≡ from + length (words text)
-  pub rows : (doc : ℕ) → each (text_row doc text) (drop from (take to after)) ≡ placed doc base (words text)
-  pub front : take from after ≡ take from before
-  pub rest : drop to after ≡ drop to before
+-- the same of a title and a body where they lie
+abbrev pub key_in : Texts → ℕ → List ℕ
+key_in texts t = token_key texts.title.now texts.body.now t
+
+abbrev pub row_in : ℕ → Texts → ℕ → Row
+row_in doc texts t = token_row doc texts.title.now texts.body.now t
+
+abbrev pub rows_in : ℕ → Texts → List ℕ → List Row
+rows_in doc texts ts = rows_of_tokens doc texts.title.now texts.body.now ts
+
+-- a token for each word of a text, in order, with places from a number on
+abbrev pub Added : List ℕ → ℕ → List ℕ → Type 0
+Added text base after = (doc : ℕ) → each (text_row doc text) after ≡ placed doc base (words text)
 
 -- title and body are short enough for places and there is room for a token for each word
 abbrev pub tokens_fit : List ℕ → List ℕ → ℕ → Bool
@@ -61,17 +69,3 @@ pub record Placed (title body before : List ℕ) (n : ℕ) (after : List ℕ) : 
   pub rows : (doc : ℕ) → rows_of_tokens doc title body (take n after) ≡ sorted_rows (word_rows doc title body)
   pub all_rows : (doc name : ℕ) → name_row doc name ∷ rows_of_tokens doc title body (take n after) ≡ sorted_rows (doc_rows doc (record { name = name; title = title; body = body }))
   pub rest : drop n after ≡ drop n before
-
--- of two sorted lists: whether the first row of one may come first, the rows of the other being what they are
-abbrev pub NotAfter : Row → List Row → Type 0
-NotAfter r [] = Unit {0}
-NotAfter r (q ∷ qs) = row_less q r ≡ false
-
-abbrev pub Before : Row → List Row → Type 0
-Before q [] = Unit {0}
-Before q (r ∷ rs) = row_less q r ≡ true
-
--- which of two runs of tokens the next one comes from
-abbrev pub Chosen : List ℕ → List ℕ → List ℕ → ℕ → List ℕ → ℕ → Bool → Type 0
-Chosen title body left i right j true = (i < length left) × ((doc : ℕ) → NotAfter (token_row doc title body (slice_index left i)) (rows_of_tokens doc title body (drop j right)))
-Chosen title body left i right j false = (i < length left → j < length right) × (j < length right → (doc : ℕ) → Before (token_row doc title body (slice_index right j)) (rows_of_tokens doc title body (drop i left)))

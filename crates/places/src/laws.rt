@@ -2,8 +2,7 @@
 ghost use Rattle.places.specs.Laws.{PlacesStand};
 
 // Rows in order are the same rows, and a document's rows are all different, its name's first.
-pub fn places_stand() -> u8
+#[tactic(auto, using(crate::proofs::Numbered::places_laws))]
+pub fn places_stand()
     ensures { PlacesStand }
-{
-    0
-}
+{}

@@ -1,2 +1,2 @@
-pub mod Steps
-pub mod Answered
+pub mod Copies
+pub mod Empty

@@ -1,55 +1,54 @@
-// The plain engine. A command is answered from the lists, and the lists that it makes take the place of the old ones when all of them are made: where
-// there is no memory for them, nothing has changed.
-ghost use Rattle.std.specs.Prelude.{◌≡◌, ◌^◌, ◌<◌, [], MatchResult};
+// The plain engine. A command is answered from the lists, and the documents that it makes take their places when all of them are made: where there is no
+// memory for them, there is no answer, and nothing has changed.
+ghost use Rattle.std.specs.Prelude.{◌≡◌, ◌^◌, ◌<◌, MatchResult};
 ghost use Rattle.std.specs.Option.{SomeIff};
 ghost use Rattle.reports.specs.Command.{put, remove, note, how_many, fetch, sweep};
 ghost use Rattle.reports.specs.Plain.{after_stop, weight};
 ghost use Rattle.matching.specs.View.{query_of};
-ghost use Rattle.plain.specs.View.{empty_plain, plain_of, docs_of, changed};
-ghost use Rattle.plain.specs.Turned.{rows_of, Turned};
+ghost use Rattle.plain.specs.View.{empty_plain, changed};
+ghost use Rattle.plain.specs.Turned.{Turned};
 
-use crate::asking::{count, number_row};
+use crate::asking::count;
 use crate::document::Document;
-use crate::faults::Fault;
-use crate::lists::{Which, add_row, add_those, copies, has, put_among, texts};
+use crate::lists::{parted, put_among, texts};
 use crate::weights::weight_of;
+use documents::Texts;
 use matching::Query;
+use reports::Refusal;
 use std::alloc::{AllocError, Global};
+use std::marker::Model;
 
-// Number 3 refuses a name that no document has.
-const NO_SUCH_NAME: u64 = 3;
+// The answer to a command: what is shown, row by row, or why it is refused. A refusal is an answer, and is compared as the rows are; want of memory is
+// none, so the functions below give `Result<Answer, AllocError>`, and no one error for both.
+pub type Answer = Result<Vec<Vec<u8>>, Refusal>;
 
-// How a command ended.
-#[derive(Clone, Copy, Debug, PartialEq, Eq)]
-pub enum Reply {
-    Done,
-    // It was refused, by this number.
-    Refused(u64),
-}
-
-// How a command went.
-#[derive(Drop)]
-pub struct Answer {
-    pub reply: Reply,
-    // What is shown, row by row.
-    pub rows: Vec<Vec<u8>>,
-}
-
+// The documents, and the heap that they are on. They stand in lists, and each command goes through them as the statements do. A map by name would find
+// one sooner, but this engine is there to be compared with, and the quick form is what is compared.
 #[derive(Drop)]
 pub struct Plain {
-    pub heap: Global,
+    heap: Global,
     // The documents that are asked.
-    pub asked: Vec<Document>,
+    asked: Vec<Document>,
     // Those that will be asked from the next note on.
-    pub coming: Vec<Document>,
+    coming: Vec<Document>,
     // Versions that are neither any more, but were since the last sweep.
-    pub gone: Vec<Document>,
+    gone: Vec<Document>,
+}
+
+// The plain engine is read as the statements have it.
+impl Model for Plain {
+    ghost use Rattle.reports.specs.Plain as said;
+    ghost use Rattle.plain.specs.View.{a_plain};
+
+    ghost Value = { said.Plain };
+
+    ghost view = { λ p. a_plain p.asked.items p.coming.items p.gone.items };
 }
 
 impl Plain {
     // No documents.
     pub fn new(heap: Global) -> Plain
-        ensures { plain_of result ≡ empty_plain }
+        ensures { result ≡ empty_plain }
     {
         let asked = Vec::new(heap);
         let coming = Vec::new(heap);
@@ -62,39 +61,60 @@ impl Plain {
         }
     }
 
-    // A document is coming, in place of one of that name.
-    pub fn put(&mut self, name: u64, title: &[u8], body: &[u8]) -> Result<Answer, Fault>
-        ensures { Turned (put name title.now body.now) self.old result self.new }
+    // The documents that are asked.
+    pub fn asked(&self) -> &[Document]
+        ensures { result.now ≡ self.now.asked }
     {
-        let document = Document::new(self.heap, name, title, body)?;
-        let mut coming = copies(self.heap, Which::Others(name), self.coming.as_slice())?;
+        self.asked.as_slice()
+    }
+
+    // Those that will be asked from the next note on.
+    pub fn coming(&self) -> &[Document]
+        ensures { result.now ≡ self.now.coming }
+    {
+        self.coming.as_slice()
+    }
+
+    // Versions that are neither any more, but were since the last sweep.
+    pub fn gone(&self) -> &[Document]
+        ensures { result.now ≡ self.now.gone }
+    {
+        self.gone.as_slice()
+    }
+
+    // A document is coming, in place of one of that name.
+    pub fn put(&mut self, name: u64, texts: Texts<'_>) -> Result<Answer, AllocError>
+        ensures { Turned (put name texts.entry.title.now texts.entry.body.now) self.old result self.new }
+    {
+        let document = Document::new(self.heap, name, texts)?;
+        let (leaving, mut coming) = parted(self.heap, name, &self.coming)?;
         put_among(&mut coming, document)?;
-        self.change(Which::Named(name), coming)?;
-        Ok(self.without_rows(Reply::Done))
+        self.change(leaving, coming)?;
+        Ok(Ok(Vec::new(self.heap)))
     }
 
     // A document is not coming any more.
-    pub fn remove(&mut self, name: u64) -> Result<Answer, Fault>
+    pub fn remove(&mut self, name: u64) -> Result<Answer, AllocError>
         ensures { Turned (remove name) self.old result self.new }
     {
-        if !has(name, self.coming.as_slice()) {
-            return Ok(self.without_rows(Reply::Refused(NO_SUCH_NAME)));
+        if !self.coming.iter().any(|document| document.name() == name) {
+            return Ok(Err(Refusal::NoSuchName));
         }
-        let coming = copies(self.heap, Which::Others(name), self.coming.as_slice())?;
-        self.change(Which::Named(name), coming)?;
-        Ok(self.without_rows(Reply::Done))
+        let (leaving, coming) = parted(self.heap, name, &self.coming)?;
+        self.change(leaving, coming)?;
+        Ok(Ok(Vec::new(self.heap)))
     }
 
     // What is coming is asked from now on.
-    pub fn note(&mut self) -> Result<Answer, Fault>
+    pub fn note(&mut self) -> Result<Answer, AllocError>
         ensures { Turned note self.old result self.new }
     {
-        self.asked = copies(self.heap, Which::All, self.coming.as_slice())?;
-        Ok(self.without_rows(Reply::Done))
+        self.asked = self.coming.clone()?;
+        Ok(Ok(Vec::new(self.heap)))
     }
 
     // The same, and what is neither any more is forgotten.
-    pub fn sweep(&mut self) -> Result<Answer, Fault>
+    pub fn sweep(&mut self) -> Result<Answer, AllocError>
         ensures { Turned sweep self.old result self.new }
     {
         let answer = self.note()?;
@@ -103,66 +123,53 @@ impl Plain {
     }
 
     // A document: its title is shown, and then its body.
-    pub fn fetch(&self, name: u64) -> Result<Answer, Fault>
+    pub fn fetch(&self, name: u64) -> Result<Answer, AllocError>
         ensures { Turned (fetch name) self.now result self.now }
     {
-        if !has(name, self.asked.as_slice()) {
-            return Ok(self.without_rows(Reply::Refused(NO_SUCH_NAME)));
+        let rows = texts(self.heap, name, &self.asked)?;
+        if rows.is_empty() {
+            return Ok(Err(Refusal::NoSuchName));
         }
-        let rows = texts(self.heap, name, self.asked.as_slice())?;
-        Ok(Answer {
-            reply: Reply::Done,
-            rows,
-        })
+        Ok(Ok(rows))
     }
 
     // How many of the documents that are asked match a question.
-    pub fn how_many(&self, query: &Query) -> Result<Answer, Fault>
+    pub fn how_many(&self, query: &Query) -> Result<Answer, AllocError>
         ensures { Turned (how_many (query_of query.now)) self.now result self.now }
     {
-        let row = number_row(count(query, self.asked.as_slice()));
-        let mut rows = Vec::new(self.heap);
-        add_row(&mut rows, self.heap, &row)?;
-        Ok(Answer {
-            reply: Reply::Done,
-            rows,
-        })
+        let row = count(query, &self.asked).to_be_bytes();
+        Ok(Ok(vec![in self.heap; Vec::from_slice(self.heap, &row)?]?))
     }
 
     // A stop: what was not noted is gone.
-    pub fn after_stop(&mut self) -> Result<(), Fault>
-        ensures { MatchResult result (λ _. plain_of self.new ≡ after_stop (plain_of self.old)) (λ _. plain_of self.new ≡ plain_of self.old) }
+    pub fn after_stop(&mut self) -> Result<(), AllocError>
+        ensures { MatchResult result (λ _. self.new ≡ after_stop self.old) (λ _. self.new ≡ self.old) }
     {
-        let coming = copies(self.heap, Which::All, self.asked.as_slice())?;
-        self.change(Which::All, coming)?;
+        let coming = self.asked.clone()?;
+        self.gone.append(&mut self.coming)?;
+        self.coming = coming;
         Ok(())
     }
 
     // What there is to keep, in bytes; none where that is no number of 64 bits.
     pub fn weight(&self) -> Option<u64>
-        ensures { SomeIff result (weight (plain_of self.now) < 2 ^ 64) (weight (plain_of self.now)) }
+        ensures { SomeIff result (weight self.now < 2 ^ 64) (weight self.now) }
     {
-        let asked = weight_of(self.asked.as_slice())?;
-        let coming = weight_of(self.coming.as_slice())?;
+        let asked = weight_of(&self.asked)?;
+        let coming = weight_of(&self.coming)?;
         asked.checked_add(coming)
     }
 
-    // Other documents are coming, and such of those that were are gone.
-    fn change(&mut self, leaving: Which, coming: Vec<Document>) -> Result<(), AllocError>
-        ensures { MatchResult result (λ _. plain_of self.new ≡ changed (plain_of self.old) leaving (docs_of coming.items)) (λ _. plain_of self.new ≡ plain_of self.old) }
+    // Other documents are coming, and those that leave are gone.
+    fn change(
+        &mut self,
+        mut leaving: Vec<Document>,
+        coming: Vec<Document>,
+    ) -> Result<(), AllocError>
+        ensures { MatchResult result (λ _. self.new ≡ changed self.old leaving.items coming.items) (λ _. self.new ≡ self.old) }
     {
-        let mut gone = copies(self.heap, Which::All, self.gone.as_slice())?;
-        add_those(&mut gone, self.heap, leaving, self.coming.as_slice())?;
-        self.gone = gone;
+        self.gone.append(&mut leaving)?;
         self.coming = coming;
         Ok(())
-    }
-
-    // An answer that shows nothing.
-    fn without_rows(&self, reply: Reply) -> Answer
-        ensures { (result.reply ≡ reply) × (rows_of result ≡ []) }
-    {
-        let rows = Vec::new(self.heap);
-        Answer { reply, rows }
     }
 }

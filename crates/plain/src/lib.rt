@@ -5,13 +5,11 @@
 mod asking;
 mod document;
 mod engine;
-mod faults;
 mod lists;
 mod weights;
 
 pub use document::Document;
-pub use engine::{Answer, Plain, Reply};
-pub use faults::Fault;
+pub use engine::{Answer, Plain};
 
 #[cfg(test)]
 mod tests;

@@ -3,7 +3,6 @@ ghost use Rattle.std.specs.Prelude.{◌+◌, ◌^◌, ◌<◌};
 ghost use Rattle.std.specs.Option.{SomeIff};
 ghost use Rattle.documents.specs.Room.{doc_weight};
 ghost use Rattle.reports.specs.Plain.{weight_of};
-ghost use Rattle.plain.specs.View.{doc_of, docs_of};
 
 use crate::document::Document;
 
@@ -12,7 +11,7 @@ const BESIDES: u64 = 256;
 
 // What the documents of a list weigh; none where that is no number of 64 bits.
 pub fn weight_of(documents: &[Document]) -> Option<u64>
-    ensures { SomeIff result (weight_of (docs_of documents.now) < 2 ^ 64) (weight_of (docs_of documents.now)) }
+    ensures { SomeIff result (weight_of documents.now < 2 ^ 64) (weight_of documents.now) }
 {
     let mut sum = 0;
     for document in documents {
@@ -23,10 +22,11 @@ pub fn weight_of(documents: &[Document]) -> Option<u64>
 
 // What a document and so much else weigh.
 fn add_weight(sum: u64, document: &Document) -> Option<u64>
-    ensures { SomeIff result (sum + doc_weight (doc_of document.now) < 2 ^ 64) (sum + doc_weight (doc_of document.now)) }
+    ensures { SomeIff result (sum + doc_weight document.now < 2 ^ 64) (sum + doc_weight document.now) }
 {
-    let title = document.title.len() as u64;
-    let body = document.body.len() as u64;
+    let texts = document.texts();
+    let title = texts.title.len() as u64;
+    let body = texts.body.len() as u64;
     sum.checked_add(BESIDES)?
         .checked_add(title)?
         .checked_add(body)

@@ -1,6 +1,5 @@
 mod Halving
 mod Refusals
-mod Rising
 pub mod Found
 pub mod Insertion
 pub mod Matching
@@ -8,3 +7,6 @@ pub mod Order
 pub mod Quotients
 pub mod Reading
 pub mod Rows
+pub mod Pairs
+pub mod Fields
+pub mod QuestionKinds

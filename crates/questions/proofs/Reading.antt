@@ -1,6 +1,8 @@
 -- What is read is what was spelled, and the other way round.
 use Rattle.std.proofs.Common.{◌≡◌, ℕ, zero, suc, ◌+◌, ◌-◌, ◌*◌, ◌^◌, ◌<◌, ◌≤◌, Bool, true, false, ◌&&◌, eqb, ltb, leb, ◌⊎◌, List, [], ◌∷◌, ◌++◌, length, take, drop, Some, None, Option, sym, refl, ap, ◌∙◌, subst, inl, inr, ⊎_elim, append_assoc, mul_assoc, mul_comm, pow-suc, arith, lit<, lit≤, length-append, take-append-drop, length-take-le, take_at, drop_at, Bor, MatchOption}
 use native.Mathlib.Nat.{pow-zero}
+use Rattle.std.specs.Bool.{then_some}
+use Rattle.std.specs.List.{IsSplitAt}
 use Rattle.std.proofs.lemmas.Bool.{and_parts, and_from, cases_eq, ltb-true, leb-true, lt-ltb, le-leb, lt-leb, eq-eqb, ne_eqb}
 use Rattle.pages.specs.Lists.{pick, every, flat}
 use Rattle.pages.specs.Bytes.{eight, with_length, from_eight, all_bytes}
@@ -429,6 +431,18 @@ passed r p a rest h t = then_on (only p) h ∙ only_on p a rest t
 pub failed : {A : Type 0} (r : Read A) (p : A → Bool) (a : A) (rest : List ℕ) → r ≡ got a rest → p a ≡ false → then r (only p) ≡ nothing
 failed r p a rest h t = then_on (only p) h ∙ ap (λ u. pick u (got a rest) nothing) t
 
+-- a value handed on only where the test is passed
+pub tested : {A B : Type 0} (Told : Option B → Type 0) (r : Read A) (p : A → Bool) (a : A) (rest : List ℕ) (t : Bool) (b : B) → r ≡ got a rest → t ≡ p a →
+    (then r (only p) ≡ nothing → Told None) → (then r (only p) ≡ got a rest → Told (Some b)) → Told (then_some t b)
+tested Told r p a rest true b h e none some = some (passed r p a rest h (sym e))
+tested Told r p a rest false b h e none some = none (failed r p a rest h (sym e))
+
+-- what the library tells of a part
+pub part_told : (n : ℕ) (bs : List ℕ) (o : Option (Bor (List ℕ) × Bor (List ℕ))) → MatchOption o (length bs < n) (λ p. IsSplitAt bs n p.0.now p.1.now) →
+    MatchOption o (read_part n bs ≡ nothing) (λ p. read_part n bs ≡ got p.0.now p.1.now)
+part_told n bs None h = part_short n bs h
+part_told n bs (Some p) h = part_here n bs h.0 ∙ ap (λ (xs : List ℕ). got xs (drop n bs)) (sym h.1) ∙ ap (got p.0.now) (sym h.2)
+
 -- where only the bytes after it count: the same reading by another name
 pub left_same : {A : Type 0} {r s : Read A} (o : Option (Bor (List ℕ))) → r ≡ s → Left s o → Left r o
 left_same {A} o e h = subst (λ (x : Read A). Left x o) (sym e) h
@@ -449,6 +463,18 @@ words_more zero bs h = absurd (omega arith)
 words_more (suc n) bs h =
     let e : n ≡ suc n - 1 = omega arith in
     ap (λ k. then (read_word bs) (λ w rest. then (read_words k rest) (λ ws rest₁. got (w ∷ ws) rest₁))) e
+
+-- after some words, what is told of the others is told of all
+abbrev pub WordsOn : (n : ℕ) (bs : List ℕ) (m : ℕ) (rest : List ℕ) → Type 0
+WordsOn n bs m rest = (o : Option (Bor (List ℕ))) → Left (read_words m rest) o → Left (read_words n bs) o
+
+pub words_on : (n : ℕ) (bs : List ℕ) (m m₁ : ℕ) (rest : List ℕ) (w : List ℕ) (rest₁ : List ℕ) → WordsOn n bs m rest → m₁ + 1 ≡ m → read_word rest ≡ got w rest₁ → WordsOn n bs m₁ rest₁
+words_on n bs m m₁ rest w rest₁ on e h =
+    let k : m - 1 ≡ m₁ = omega arith in
+    λ o l. on o (left_same o (words_more m rest (omega arith) ∙ then_on _ h ∙ ap (λ (i : ℕ). then (read_words i rest₁) (λ ws rest₂. got (w ∷ ws) rest₂)) k) (left_made (read_words m₁ rest₁) (λ ws. w ∷ ws) o l))
+
+pub words_end : (n : ℕ) (bs : List ℕ) (m : ℕ) (rest : List ℕ) → WordsOn n bs m rest → 1 ≤ m → read_word rest ≡ nothing → read_words n bs ≡ nothing
+words_end n bs m rest on some h = on None (words_more m rest some ∙ then_none _ h)
 
 -- a question of one part, by its kind
 pub sought_none : {A : Type 0} (read : List ℕ → Read A) (bs : List ℕ) → read_field bs ≡ nothing → read_sought read bs ≡ nothing
@@ -512,6 +538,31 @@ unfolding read_kind
 kind_single kind h read left bs =
     simp (ne_eqb kind 5 (λ e. h (omega arith) (omega arith)), ne_eqb kind 6 (λ e. h (omega arith) (omega arith)), ne_eqb kind 7 (λ e. h (omega arith) (omega arith)))
 
+pub query_at : (depth left : ℕ) (bs : List ℕ) (kind : ℕ) (rest : List ℕ) → 1 ≤ depth → 1 ≤ left → bs ≡ kind ∷ rest →
+    read_query depth left bs ≡ read_kind (read_query (depth - 1)) (left - 1) kind rest
+query_at depth left bs kind rest d l e = query_more depth left bs d l ∙ ap (λ x. then (read_byte x) (read_kind (read_query (depth - 1)) (left - 1))) e
+
+-- the same with one taken from the depth and from the parts
+pub query_first : (depth depth₁ left left₁ : ℕ) (bs : List ℕ) (kind : ℕ) (rest : List ℕ) → (1 ≤ depth) × (depth₁ ≡ depth - 1) → (1 ≤ left) × (left₁ ≡ left - 1) → bs ≡ kind ∷ rest →
+    read_query depth left bs ≡ read_kind (read_query depth₁) left₁ kind rest
+query_first depth depth₁ left left₁ bs kind rest d l e = rw (d.1, l.1) (query_at depth left bs kind rest d.0 l.0 e)
+
+-- a question of one part, by its kind
+pub query_single : (depth depth₁ left left₁ : ℕ) (bs : List ℕ) (kind : ℕ) (rest : List ℕ) → (1 ≤ depth) × (depth₁ ≡ depth - 1) → (1 ≤ left) × (left₁ ≡ left - 1) → bs ≡ kind ∷ rest →
+    (5 ≤ kind → kind ≤ 7 → ⊥) → read_query depth left bs ≡ then (read_single kind rest) (whole left₁)
+query_single depth depth₁ left left₁ bs kind rest d l e o =
+    query_first depth depth₁ left left₁ bs kind rest d l e ∙ kind_single kind o (read_query depth₁) left₁ rest
+
+pub single_sought : (kind : ℕ) (bs : List ℕ) (o : Option (Bor (List ℕ))) → (kind ≡ 1) ⊎ (kind ≡ 3) → Left (read_sought read_word bs) o → Left (read_single kind bs) o
+single_sought kind bs o k h = ⊎_elim (λ e. single_word kind bs o e h) (λ e. single_begins kind bs o e h) k
+
+pub single_ends : (x : Read Asked) (left kind : ℕ) (rest : List ℕ) → x ≡ then (read_single kind rest) (whole left) → Left (read_single kind rest) None → x ≡ nothing
+single_ends x left kind rest e h = e ∙ then_none {r = read_single kind rest} (whole left) h
+
+pub single_goes : (x : Read Asked) (left kind : ℕ) (rest : List ℕ) (rest₁ : Bor (List ℕ)) → x ≡ then (read_single kind rest) (whole left) → Left (read_single kind rest) (Some rest₁) →
+    (q : Query) × (x ≡ whole left q rest₁.now)
+single_goes x left kind rest rest₁ e h = (h.0, e ∙ then_on {r = read_single kind rest} (whole left) h.1)
+
 -- two questions, of which the first was not there, or was
 pub two_none : (read : ℕ → List ℕ → Read Asked) (join : Query → Query → Query) (left : ℕ) (bs : List ℕ) → read left bs ≡ nothing → read_two read join left bs ≡ nothing
 unfolding read_two
@@ -521,10 +572,6 @@ pub two_left : (read : ℕ → List ℕ → Read Asked) (join : Query → Query 
     read_two read join left bs ≡ then (read k rest) (λ b rest₁. whole b.left (join q b.query) rest₁)
 unfolding read_two
 two_left read join left bs q k rest h = then_on _ h
-
-pub query_at : (depth left : ℕ) (bs : List ℕ) (kind : ℕ) (rest : List ℕ) → 1 ≤ depth → 1 ≤ left → bs ≡ kind ∷ rest →
-    read_query depth left bs ≡ read_kind (read_query (depth - 1)) (left - 1) kind rest
-query_at depth left bs kind rest d l e = query_more depth left bs d l ∙ ap (λ x. then (read_byte x) (read_kind (read_query (depth - 1)) (left - 1))) e
 
 -- what is told of two questions is told of the second, with the first joined to it
 pub told_joined : {R : Type 0} (left : R → ℕ) (rest : R → List ℕ) (x y : Read Asked) (f : Query → Query) (o : Option R) → x ≡ then y (λ b r. whole b.left (f b.query) r) →

@@ -1,4 +1,6 @@
 pub mod Query
+pub mod Fields
+pub mod Kinds
 pub mod Points
 pub mod Order
 pub mod Best

@@ -3,8 +3,9 @@
 
 #[cfg(test)]
 mod tests {
-    use reports::{Request, read_command};
+    use reports::{Request, Verb, read_command};
     use std::alloc::{AllocError, Global};
+    use std::iter;
     use std::test::Fail;
 
     // A part of a command: a byte, a number in eight bytes, or so many times one byte with their count before them.
@@ -17,16 +18,16 @@ mod tests {
 
     use Part::{Byte, Number, Text};
 
-    fn add(bytes: &mut Vec<u8>, part: Part) -> Result<(), AllocError> {
-        match part {
-            Part::Byte(byte) => bytes.extend_from_slice(&[byte]),
-            Part::Number(n) => bytes.extend_from_slice(&n.to_be_bytes()),
-            Part::Text(byte, count) => {
-                bytes.extend_from_slice(&count.to_be_bytes())?;
-                for _ in 0..count {
-                    bytes.extend_from_slice(&[byte])?;
+    impl Part {
+        // Adds the bytes that spell it.
+        fn spell(self, bytes: &mut Vec<u8>) -> Result<(), AllocError> {
+            match self {
+                Byte(byte) => bytes.extend_from_slice(&[byte]),
+                Number(n) => bytes.extend_from_slice(&n.to_be_bytes()),
+                Text(byte, count) => {
+                    bytes.extend_from_slice(&count.to_be_bytes())?;
+                    bytes.extend(iter::repeat_n(byte, count as usize))
                 }
-                Ok(())
             }
         }
     }
@@ -34,27 +35,27 @@ mod tests {
     fn spelled(heap: Global, parts: &[Part]) -> Result<Vec<u8>, AllocError> {
         let mut bytes = Vec::new(heap);
         for part in parts {
-            add(&mut bytes, *part)?;
+            part.spell(&mut bytes)?;
         }
         Ok(bytes)
     }
 
-    // The number of the kind of command that is read, 0 for none.
-    fn kind(bytes: &[u8]) -> u8 {
-        match read_command(bytes) {
-            None => 0,
-            Some(Request::Put { .. }) => 1,
-            Some(Request::Remove(_)) => 2,
-            Some(Request::Note) => 3,
-            Some(Request::Ask(_, _)) => 4,
-            Some(Request::Count(_)) => 5,
-            Some(Request::Fetch(_)) => 6,
-            Some(Request::Words(_, _)) => 7,
-            Some(Request::Sweep) => 8,
-        }
+    // The kind of the command that is read, by the byte that stands first in it; none if no command is.
+    fn kind(bytes: &[u8]) -> Option<u8> {
+        let verb = match read_command(bytes)? {
+            Request::Put { .. } => Verb::Put,
+            Request::Remove(_) => Verb::Remove,
+            Request::Note => Verb::Note,
+            Request::Ask(_, _) => Verb::Ask,
+            Request::Count(_) => Verb::Count,
+            Request::Fetch(_) => Verb::Fetch,
+            Request::Words(_, _) => Verb::Words,
+            Request::Sweep => Verb::Sweep,
+        };
+        Some(u8::from(verb))
     }
 
-    fn read(heap: Global, parts: &[Part]) -> Result<u8, AllocError> {
+    fn read(heap: Global, parts: &[Part]) -> Result<Option<u8>, AllocError> {
         let bytes = spelled(heap, parts)?;
         Ok(kind(&bytes))
     }
@@ -64,21 +65,24 @@ mod tests {
         let heap = rt.alloc();
         assert_eq!(rt;
             read(heap, &[Byte(1), Number(7), Text(b't', 3), Text(b'b', 0)])?,
-            1
+            Some(1)
         );
-        assert_eq!(rt; read(heap, &[Byte(2), Number(u64::MAX)])?, 2);
-        assert_eq!(rt; read(heap, &[Byte(3)])?, 3);
+        assert_eq!(rt; read(heap, &[Byte(2), Number(u64::MAX)])?, Some(2));
+        assert_eq!(rt; read(heap, &[Byte(3)])?, Some(3));
         assert_eq!(rt;
             read(
                 heap,
                 &[Byte(4), Number(1000), Byte(1), Byte(2), Text(b'w', 64)],
             )?,
-            4
+            Some(4)
         );
-        assert_eq!(rt; read(heap, &[Byte(5), Byte(3), Byte(0), Text(0xff, 1)])?, 5);
-        assert_eq!(rt; read(heap, &[Byte(6), Number(0)])?, 6);
-        assert_eq!(rt; read(heap, &[Byte(7), Text(b'0', 0), Number(1)])?, 7);
-        assert_eq!(rt; read(heap, &[Byte(8)])?, 8);
+        assert_eq!(rt;
+            read(heap, &[Byte(5), Byte(3), Byte(0), Text(0xff, 1)])?,
+            Some(5)
+        );
+        assert_eq!(rt; read(heap, &[Byte(6), Number(0)])?, Some(6));
+        assert_eq!(rt; read(heap, &[Byte(7), Text(b'0', 0), Number(1)])?, Some(7));
+        assert_eq!(rt; read(heap, &[Byte(8)])?, Some(8));
         Ok(())
     }
 
@@ -89,6 +93,7 @@ mod tests {
             rt.alloc(),
             &[Byte(1), Number(7), Text(b't', 3), Text(b'b', 5)],
         )?;
+        // It is no `ok_or`, here and below: a command of another kind is no answer either.
         let Some(Request::Put { name, title, body }) = read_command(&bytes) else {
             return Err(Fail::new("no put"));
         };
@@ -122,18 +127,18 @@ mod tests {
                 heap,
                 &[Byte(1), Number(7), Text(b't', 255), Text(b'b', 65_535)],
             )?,
-            1
+            Some(1)
         );
         assert_eq!(rt;
             read(heap, &[Byte(1), Number(7), Text(b't', 256), Text(b'b', 5)])?,
-            0
+            None
         );
         assert_eq!(rt;
             read(
                 heap,
                 &[Byte(1), Number(7), Text(b't', 3), Text(b'b', 65_536)],
             )?,
-            0
+            None
         );
         Ok(())
     }
@@ -144,19 +149,22 @@ mod tests {
         let heap = rt.alloc();
         assert_eq!(rt;
             read(heap, &[Byte(4), Number(0), Byte(1), Byte(0), Text(b'w', 1)])?,
-            0
+            None
         );
         assert_eq!(rt;
             read(
                 heap,
                 &[Byte(4), Number(1001), Byte(1), Byte(0), Text(b'w', 1)],
             )?,
-            0
+            None
         );
-        assert_eq!(rt; read(heap, &[Byte(7), Text(b'w', 1), Number(1000)])?, 7);
-        assert_eq!(rt; read(heap, &[Byte(7), Text(b'w', 1), Number(0)])?, 0);
-        assert_eq!(rt; read(heap, &[Byte(7), Text(b'w', 1), Number(1001)])?, 0);
-        assert_eq!(rt; read(heap, &[Byte(7), Text(b'W', 1), Number(1)])?, 0);
+        assert_eq!(rt;
+            read(heap, &[Byte(7), Text(b'w', 1), Number(1000)])?,
+            Some(7)
+        );
+        assert_eq!(rt; read(heap, &[Byte(7), Text(b'w', 1), Number(0)])?, None);
+        assert_eq!(rt; read(heap, &[Byte(7), Text(b'w', 1), Number(1001)])?, None);
+        assert_eq!(rt; read(heap, &[Byte(7), Text(b'W', 1), Number(1)])?, None);
         Ok(())
     }
 
@@ -166,17 +174,32 @@ mod tests {
         let heap = rt.alloc();
         assert_eq!(rt;
             read(heap, &[Byte(5), Byte(1), Byte(0), Text(b'w', 64)])?,
-            5
+            Some(5)
         );
         assert_eq!(rt;
             read(heap, &[Byte(5), Byte(1), Byte(0), Text(b'w', 65)])?,
-            0
+            None
         );
-        assert_eq!(rt; read(heap, &[Byte(5), Byte(1), Byte(0), Text(b'w', 0)])?, 0);
-        assert_eq!(rt; read(heap, &[Byte(5), Byte(1), Byte(0), Text(b'W', 1)])?, 0);
-        assert_eq!(rt; read(heap, &[Byte(5), Byte(1), Byte(0), Text(b' ', 1)])?, 0);
-        assert_eq!(rt; read(heap, &[Byte(5), Byte(1), Byte(3), Text(b'w', 1)])?, 0);
-        assert_eq!(rt; read(heap, &[Byte(5), Byte(8), Byte(0), Text(b'w', 1)])?, 0);
+        assert_eq!(rt;
+            read(heap, &[Byte(5), Byte(1), Byte(0), Text(b'w', 0)])?,
+            None
+        );
+        assert_eq!(rt;
+            read(heap, &[Byte(5), Byte(1), Byte(0), Text(b'W', 1)])?,
+            None
+        );
+        assert_eq!(rt;
+            read(heap, &[Byte(5), Byte(1), Byte(0), Text(b' ', 1)])?,
+            None
+        );
+        assert_eq!(rt;
+            read(heap, &[Byte(5), Byte(1), Byte(3), Text(b'w', 1)])?,
+            None
+        );
+        assert_eq!(rt;
+            read(heap, &[Byte(5), Byte(8), Byte(0), Text(b'w', 1)])?,
+            None
+        );
         Ok(())
     }
 
@@ -189,83 +212,85 @@ mod tests {
                 heap,
                 &[Byte(5), Byte(4), Number(64), Text(b'v', 1), Text(b'w', 1)],
             )?,
-            5
+            Some(5)
         );
         assert_eq!(rt;
             read(
                 heap,
                 &[Byte(5), Byte(4), Number(0), Text(b'v', 1), Text(b'w', 1)],
             )?,
-            0
+            None
         );
         assert_eq!(rt;
             read(
                 heap,
                 &[Byte(5), Byte(4), Number(65), Text(b'v', 1), Text(b'w', 1)],
             )?,
-            0
+            None
         );
         Ok(())
     }
 
-    // Whether a phrase of so many words is read.
-    fn phrase(heap: Global, count: u64) -> Result<u8, AllocError> {
-        let mut bytes = spelled(heap, &[Byte(5), Byte(2), Byte(1), Number(count)])?;
-        for _ in 0..count {
-            add(&mut bytes, Text(b'w', 2))?;
-        }
-        Ok(kind(&bytes))
+    // What is read of a phrase of so many words.
+    fn phrase(heap: Global, count: u64) -> Result<Option<u8>, AllocError> {
+        let mut parts = [Byte(5), Byte(2), Byte(1), Number(count)].to_vec(heap)?;
+        parts.extend(iter::repeat_n(Text(b'w', 2), count as usize))?;
+        read(heap, &parts)
     }
 
-    // Whether a question of so many joins, and one word more, is read.
-    fn joined(heap: Global, joins: u64) -> Result<u8, AllocError> {
-        let mut bytes = spelled(heap, &[Byte(5)])?;
-        for _ in 0..joins {
-            add(&mut bytes, Byte(6))?;
-        }
+    // What is read of a question of so many joins, and one word more.
+    fn joined(heap: Global, joins: usize) -> Result<Option<u8>, AllocError> {
+        let mut parts = [Byte(5)].to_vec(heap)?;
+        parts.extend(iter::repeat_n(Byte(6), joins))?;
         for _ in 0..=joins {
-            add(&mut bytes, Byte(1))?;
-            add(&mut bytes, Byte(0))?;
-            add(&mut bytes, Text(b'w', 1))?;
+            parts.extend_from_slice(&[Byte(1), Byte(0), Text(b'w', 1)])?;
         }
-        Ok(kind(&bytes))
+        read(heap, &parts)
     }
 
     // A phrase has 1 to 16 words. A question has at most 31 parts; with its joins the next more has 33.
     #[test]
     fn sizes(rt: HostRuntime) -> Result<(), Fail> {
         let heap = rt.alloc();
-        assert_eq!(rt; phrase(heap, 16)?, 5);
-        assert_eq!(rt; phrase(heap, 0)?, 0);
-        assert_eq!(rt; phrase(heap, 17)?, 0);
-        assert_eq!(rt; joined(heap, 15)?, 5);
-        assert_eq!(rt; joined(heap, 16)?, 0);
+        assert_eq!(rt; phrase(heap, 16)?, Some(5));
+        assert_eq!(rt; phrase(heap, 0)?, None);
+        assert_eq!(rt; phrase(heap, 17)?, None);
+        assert_eq!(rt; joined(heap, 15)?, Some(5));
+        assert_eq!(rt; joined(heap, 16)?, None);
         Ok(())
     }
 
-    // Cut short anywhere, with one byte more, with a count that lies, empty or of no kind, it is no command.
+    // Cut short anywhere, down to nothing, it is no command.
     #[test]
-    fn no_commands(rt: HostRuntime) -> Result<(), Fail> {
+    fn cut_short(rt: HostRuntime) -> Result<(), Fail> {
         let heap = rt.alloc();
         let bytes = spelled(heap, &[Byte(1), Number(7), Text(b't', 3), Text(b'b', 5)])?;
         let bytes = bytes.as_slice();
-        assert_eq!(rt; kind(bytes), 1);
+        assert_eq!(rt; kind(bytes), Some(1));
+        // No iterator gives the fronts of a slice, so each is named by its length.
         for cut in 0..bytes.len() {
-            assert_eq!(rt; kind(&bytes[0..cut]), 0);
+            assert_eq!(rt; kind(&bytes[..cut]), None);
         }
+        Ok(())
+    }
+
+    // With one byte more, with a count that lies or of no kind, it is no command.
+    #[test]
+    fn no_commands(rt: HostRuntime) -> Result<(), Fail> {
+        let heap = rt.alloc();
         assert_eq!(rt;
             read(
                 heap,
                 &[Byte(1), Number(7), Text(b't', 3), Text(b'b', 5), Byte(0)],
             )?,
-            0
+            None
         );
         assert_eq!(rt;
             read(
                 heap,
                 &[Byte(1), Number(7), Text(b't', 3), Number(6), Byte(b'b')],
             )?,
-            0
+            None
         );
         assert_eq!(rt;
             read(
@@ -278,11 +303,11 @@ mod tests {
                     Byte(b'b'),
                 ],
             )?,
-            0
+            None
         );
-        assert_eq!(rt; read(heap, &[Byte(3), Byte(0)])?, 0);
-        assert_eq!(rt; read(heap, &[Byte(0)])?, 0);
-        assert_eq!(rt; read(heap, &[Byte(9)])?, 0);
+        assert_eq!(rt; read(heap, &[Byte(3), Byte(0)])?, None);
+        assert_eq!(rt; read(heap, &[Byte(0)])?, None);
+        assert_eq!(rt; read(heap, &[Byte(9)])?, None);
         Ok(())
     }
 }

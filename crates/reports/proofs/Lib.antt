@@ -1,4 +1,5 @@
 pub mod Examples
+pub mod Fronts
 pub mod Logic
 pub mod Moves
 pub mod Names

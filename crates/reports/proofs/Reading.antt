@@ -11,7 +11,7 @@ use Rattle.questions.specs.Reading.{Read, nothing, got, then, only, read_byte, r
 use Rattle.questions.proofs.Reading.{then_on, got_same, choose, every_append, every_both, Sound, step, sound_only, reads_only, reads_number, sound_number, reads_within, sound_within, reads_bytes, sound_bytes, sound_byte, with_length_bytes, word_bytes, reads_query, sound_query, asked_spelled, query_bytes}
 use Rattle.reports.specs.Command.{Command, put, remove, note, ask, how_many, fetch, list_words, sweep, spelled, fits}
 use Rattle.reports.specs.Reading.{Reading, no_command, a_command, read_limit, read_text, read_beginning, read_kind, all_of_it, read_command}
-use Rattle.reports.specs.Promise.{Said}
+use Rattle.reports.specs.Promise.{Said, SpelledOnce}
 
 abbrev big : ℕ
 big = 18446744073709551616
@@ -188,3 +188,7 @@ said_read bs c h =
 -- NO TWO COMMANDS ARE SPELLED ALIKE: what both are spelled is read as one
 pub said_once : (bs : List ℕ) (a c : Command) → Said bs a → Said bs c → a ≡ c
 said_once bs a c h k = let e = read_said bs a h in let f = read_said bs c k in cc
+
+pub spelled_once : SpelledOnce
+unfolding Said SpelledOnce
+spelled_once a b h k e = said_once (spelled b) a b (e, h) (refl, k)

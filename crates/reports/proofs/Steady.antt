@@ -19,6 +19,7 @@ use Rattle.reports.specs.Run.{Event, on, said, page, next, Act, Step, all_small,
 use Rattle.reports.specs.Moves.{Moved, goes, acts}
 use Rattle.reports.specs.Registers.{phase_of, phase_number, ledger_numbers, register_numbers, register_count, at_phase, refusal_next}
 use Rattle.reports.specs.declared.registers.Phase.{Phase}
+use Rattle.reports.specs.declared.refusal.Refusal.TheVariants.{Unknown, NoSuchName}
 use Rattle.reports.specs.declared.registers.Phase.TheVariants.{Idle, First, Second, Refusing, Flushing, Heading, Settling, Finishing}
 use Rattle.reports.specs.declared.registers.Ledger.{Ledger}
 use Rattle.reports.specs.declared.registers.Registers.{Registers}
@@ -267,7 +268,7 @@ small_page Settling r bs a s = s
 small_page Finishing r bs a s = s
 
 small_missing : (r : Registers) (t : Root) → SmallRegisters r → SmallRegisters (missing t r)
-small_missing r t s = pick_either SmallRegisters (eqb t.count 0) (refusal_next 3 r) (refusal_next 2 r) (small_reply r Refusing 3 (omega arith) s) (small_reply r Refusing 2 (omega arith) s)
+small_missing r t s = pick_either SmallRegisters (eqb t.count 0) (refusal_next NoSuchName r) (refusal_next Unknown r) (small_reply r Refusing 3 (omega arith) s) (small_reply r Refusing 2 (omega arith) s)
 
 small_begun : (r : Registers) (c : Command) → SmallRegisters r → SmallRegisters (begun r c)
 small_begun r (put n t b) s = small_reply r Refusing 2 (omega arith) s

@@ -7,12 +7,17 @@ use Rattle.reports.specs.Run.{Event, Step}
 use Rattle.reports.specs.Moves.{Moved, goes, acts, after_move, moves}
 use Rattle.pages.specs.Places.{written}
 use Rattle.reports.specs.Registers.{register_numbers, register_count, registers_in}
-use Rattle.reports.specs.Machine.{St, move, store, load, told, most_moves, cells, after_event, own, own_step}
-use Rattle.reports.specs.Entry.{step_fits, ActTold}
+use Rattle.reports.specs.Machine.{St, move, move_at, with_rest, store, load, told, most_moves, cells, after_event, own, own_step}
+use Rattle.reports.specs.Entry.{tell_fits, step_fits, ActTold}
 use Rattle.reports.specs.Stepping.{state, MovedSo, MoveSays, StepIs, MovesSay}
 use Rattle.reports.specs.declared.registers.Registers.{Registers}
 use Rattle.reports.specs.declared.Told.{Told}
 use Rattle.reports.specs.declared.Told.TheVariants.{Flush}
+
+-- a move, by what the machine is at
+pub move_is : (r : Registers) (rest : List ℕ) → move (state r rest) ≡ with_rest rest (move_at r.phase r)
+unfolding move
+move_is r rest = refl
 
 -- a move without an act: the moves that are left go on from where it led, and the lent row is as it was
 pub moved_on : (m : Moved St) (rest out out₁ : List ℕ) (r : Registers) (f : ℕ) → MovedSo m rest out None r out₁ → (after_move store (moves store move f) m ≡ moves store move f (state r rest)) × (out₁ ≡ out)
@@ -65,19 +70,30 @@ pub own_length : length own.start ≡ cells
 unfolding own
 own_length = length_zeros cells
 
-pub fits_so : (m : List ℕ) (k : ℕ) (bs out : List ℕ) → length m ≡ cells → k ≤ 3 → 131072 ≤ length out → step_fits m k bs out ≡ true
-unfolding step_fits
-fits_so m k bs out h l o =
+pub told_fits : (m out : List ℕ) → length m ≡ cells → 131072 ≤ length out → tell_fits m out ≡ true
+unfolding tell_fits
+told_fits m out h o =
     let e : eqb (length m) (length own.start) ≡ true = eq-eqb _ _ (h ∙ sym own_length) in
-    simp (e, le-leb k 3 l, le-leb 131072 (length out) o)
+    simp (e, le-leb 131072 (length out) o)
 
-pub fits_not : (m : List ℕ) (k : ℕ) (bs out : List ℕ) → (length m ≡ cells → ⊥) ⊎ (((length m ≡ cells) × (3 < k)) ⊎ ((length m ≡ cells) × (k ≤ 3) × (length out < 131072))) → step_fits m k bs out ≡ false
-unfolding step_fits
-fits_not m k bs out (inl h) =
+pub told_not : (m out : List ℕ) → (length m ≡ cells → ⊥) ⊎ ((length m ≡ cells) × (length out < 131072)) → tell_fits m out ≡ false
+unfolding tell_fits
+told_not m out (inl h) =
     let e : eqb (length m) (length own.start) ≡ false = ne_eqb _ _ (λ q. h (q ∙ own_length)) in
     simp e
-fits_not m k bs out (inr (inl h)) = simp (lt-leb k 3 h.1, and-false)
-fits_not m k bs out (inr (inr h)) = simp (lt-leb 131072 (length out) h.2, and-false)
+told_not m out (inr h) = simp (lt-leb 131072 (length out) h.1, and-false)
+
+-- a kind that there is asks for no more than an event does, and there is no step for another
+pub kind_fits : (m : List ℕ) (k : ℕ) (bs out : List ℕ) → k ≤ 3 → tell_fits m out ≡ step_fits m k bs out
+unfolding tell_fits step_fits
+kind_fits m k bs out l = simp (le-leb k 3 l)
+
+pub kind_not : (m : List ℕ) (k : ℕ) (bs out : List ℕ) → 3 < k → step_fits m k bs out ≡ false
+unfolding step_fits
+kind_not m k bs out l = simp (lt-leb k 3 l, and-false)
+
+pub fits_so : (m : List ℕ) (k : ℕ) (bs out : List ℕ) → length m ≡ cells → k ≤ 3 → 131072 ≤ length out → step_fits m k bs out ≡ true
+fits_so m k bs out h l o = sym (kind_fits m k bs out l) ∙ told_fits m out h o
 
 -- a step at a memory of the engine's own length
 pub step_at : (m : List ℕ) (ev : Event) → length m ≡ cells → own.step m ev ≡ moves store move most_moves (after_event (load m) ev)

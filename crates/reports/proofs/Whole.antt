@@ -19,7 +19,9 @@ use Rattle.reports.specs.Reading.{Reading, no_command, a_command, read_command}
 use Rattle.reports.specs.Plain.{Plain, turn, after_stop, named}
 use Rattle.reports.specs.Run.{Event, on, said, page, next, World, queued, refusal_end, new_world}
 use Rattle.reports.specs.Moves.{moves}
-use Rattle.reports.specs.Registers.{at_phase, refusal_next}
+use Rattle.reports.specs.Registers.{at_phase, refusal_number, refusal_next}
+use Rattle.reports.specs.declared.refusal.Refusal.{Refusal}
+use Rattle.reports.specs.declared.refusal.Refusal.TheVariants.{NoCommand, Unknown, NoSuchName}
 use Rattle.reports.specs.Machine.{St, load, store, told, waking, up, first_found, found_first, page_told, missing, begun, begun_from, next_sequence, next_head, other_page, committed, move, most_moves, cells, after_event, own}
 use Rattle.reports.specs.declared.registers.Phase.TheVariants.{Idle, First, Second, Flushing}
 use Rattle.reports.specs.declared.registers.Ledger.{Ledger}
@@ -30,7 +32,7 @@ use Rattle.reports.proofs.Moves.{Runs, reading, writing, flushing, ending, refus
 use Rattle.reports.proofs.Reading.{read_said, said_read}
 use Rattle.reports.proofs.Standing.{Holds, Sound, Counts, Down, Ready, sound_flushed, sound_stopped, sound_queued, sound_read, sound_writable, counts_fewer, counts_flushed, counts_stopped, stop_keeps}
 use Rattle.reports.proofs.Steady.{steady, load_store, Fits, fits_store, fits_load, fits_kept, kept_goes, kept_acts}
-use Rattle.reports.proofs.Stepping.{step_at}
+use Rattle.reports.proofs.Stepping.{told_not, kind_fits, kind_not, step_at}
 
 -- a step on a stored state is moves from what the event makes of it
 stored_step : (st : St) (ev : Event) → Fits st → own.step (store st) ev ≡ moves store move most_moves (after_event st ev)
@@ -216,7 +218,7 @@ may_fetch_none pages s t k h e =
     inl (fetch k, h, refl, inl (simp none, simp none, simp none, refl))
 
 -- the empty root has no documents
-none_under : (t : Root) (r : Registers) → t ≡ empty_head.root → missing t r ≡ refusal_next 3 r
+none_under : (t : Root) (r : Registers) → t ≡ empty_head.root → missing t r ≡ refusal_next NoSuchName r
 none_under t r e = ap (λ x. missing x r) e
 
 -- what the registers hold of the first head is that head
@@ -327,9 +329,10 @@ module _ (size : ℕ) (low : 256 ≤ size) where
     stop_here = stop_keeps size n w.device _ _ s still_ready.sound still_ready.apart still_ready.counts
 
     -- refused, with a number that may be said of it
-    refuses : (k : ℕ) → told st.registers (said t) ≡ refusal_next k st.registers → May finding size s t [] 0 (refusal_end k) s → Goes n w s t
+    refuses : (why : Refusal) → told st.registers (said t) ≡ refusal_next why st.registers → May finding size s t [] 0 (refusal_end (refusal_number why)) s → Goes n w s t
     unfolding move
-    refuses k q may =
+    refuses why q may =
+        let k = refusal_number why in
         let g = well (λ x. (cs : List ℕ) → Down size n (stopped x cs) (after_stop s))
         (λ st₁ x ss r reply. (x ≡ w.device) × (st₁.registers.ledger ≡ st.registers.ledger) × (ss ≡ []) × (reply ≡ refusal_end k) × (r ≡ 0)) _ _
         (λ v h cs. inl (h cs))
@@ -339,7 +342,7 @@ module _ (size : ℕ) (low : 256 ≤ size) where
           (st₁, m, f, subst (λ (x : Device). Ready size n st₁.registers.ledger x s) (sym h.0) (subst (λ (x : Ledger). Ready size n x w.device s) (sym h.1) still_ready)),
           subst (λ (x : Device). (cs : List ℕ) → Down size n (stopped x cs) (after_stop s)) (sym h.0) stop_here,
         ))
-        (record { registers = refusal_next k st.registers; rest = st.rest }) w.device w.memory (said t) fit (stepped_to _ q)
+        (record { registers = refusal_next why st.registers; rest = st.rest }) w.device w.memory (said t) fit (stepped_to _ q)
         (refusing _ k refl stop_here (refl, refl, refl, refl, refl)) in
         (g.0, s, g.1)
 
@@ -362,17 +365,17 @@ module _ (size : ℕ) (low : 256 ≤ size) where
     by_command : (c : Command) → read_command t ≡ a_command c → Goes n w s t
     by_command c q = by c (said_read t c q) (ap (begun_from st.registers) q) where
       by : (c : Command) → Said t c → told st.registers (said t) ≡ begun st.registers c → Goes n w s t
-      by (put k a b) h e = refuses 2 e (may_refuse_2 size s t _ 0 h refl)
-      by (remove k) h e = refuses 3 (e ∙ none_under st.registers.ledger.coming st.registers ready.coming_holds.0) (may_remove_none size s t k h ready.coming_holds.1)
+      by (put k a b) h e = refuses Unknown e (may_refuse_2 size s t _ 0 h refl)
+      by (remove k) h e = refuses NoSuchName (e ∙ none_under st.registers.ledger.coming st.registers ready.coming_holds.0) (may_remove_none size s t k h ready.coming_holds.1)
       by note h e = notes h e
-      by (ask k x) h e = refuses 2 e (may_refuse_2 size s t _ 0 h refl)
-      by (how_many x) h e = refuses 2 e (may_refuse_2 size s t _ 0 h refl)
-      by (fetch k) h e = refuses 3 (e ∙ none_under st.registers.ledger.stands.head.root st.registers ready.counts.holds.0) (may_fetch_none size s t k h ready.counts.holds.1)
-      by (list_words p k) h e = refuses 2 e (may_refuse_2 size s t _ 0 h refl)
-      by sweep h e = refuses 2 e (may_refuse_2 size s t _ 0 h refl)
+      by (ask k x) h e = refuses Unknown e (may_refuse_2 size s t _ 0 h refl)
+      by (how_many x) h e = refuses Unknown e (may_refuse_2 size s t _ 0 h refl)
+      by (fetch k) h e = refuses NoSuchName (e ∙ none_under st.registers.ledger.stands.head.root st.registers ready.counts.holds.0) (may_fetch_none size s t k h ready.counts.holds.1)
+      by (list_words p k) h e = refuses Unknown e (may_refuse_2 size s t _ 0 h refl)
+      by sweep h e = refuses Unknown e (may_refuse_2 size s t _ 0 h refl)
 
     by_reading : (x : Reading) → read_command t ≡ x → Goes n w s t
-    by_reading no_command q = refuses 1 (ap (begun_from st.registers) q) (may_refuse_1 size s t 0 q)
+    by_reading no_command q = refuses NoCommand (ap (begun_from st.registers) q) (may_refuse_1 size s t 0 q)
     by_reading (a_command c) q = by_command c q
 
   obeys : Obeys (May finding size) after_stop own (Down size) (Up size)
@@ -411,3 +414,6 @@ whole_finding = (
   steady,
   λ size is low high few ok. right (May finding size) after_stop own (Down size) (Up size) (boots size low) (obeys size low) is false (new_world size) _ (new_down size (length is) low few) ok,
 )
+
+-- what a step needs of this and of its parts
+pub ruleset telling = (whole_finding, told_not, kind_fits, kind_not)

@@ -19,11 +19,17 @@ ActTold (shows s) r out out₁ = (r ≡ Shows (length s)) × (out₁ ≡ s ++ dr
 ActTold done r out out₁ = (r ≡ Done) × (out₁ ≡ out)
 ActTold (refused k) r out out₁ = (r ≡ No k) × (out₁ ≡ out)
 
--- one step: for memories of the engine's own length and a lent row of 131,072 bytes; for others number 0 is told and nothing is changed
+-- one step, told an event: for memories of the engine's own length and a lent row of 131,072 bytes; for others number 0 is told and nothing is changed
+abbrev pub TellSays : (memory : List ℕ) → Event → (out : List ℕ) → Bool → Told → (memory₁ out₁ : List ℕ) → Type 0
+TellSays memory ev out true r memory₁ out₁ = (memory₁ ≡ (own.step memory ev).memory) × ActTold (own.step memory ev).act r out out₁
+TellSays memory ev out false r memory₁ out₁ = (r ≡ No 0) × (memory₁ ≡ memory) × (out₁ ≡ out)
+
+unfoldable pub tell_fits : (memory out : List ℕ) → Bool
+tell_fits memory out = length memory == length own.start && nat_le 131072 (length out)
+
+-- the same, told a kind and some bytes; number 0 for other kinds, too
 unfoldable pub StepSays : (memory : List ℕ) (kind : ℕ) (bytes out : List ℕ) → Bool → Told → (memory₁ out₁ : List ℕ) → Type 0
-StepSays memory kind bytes out true r memory₁ out₁ =
-    (memory₁ ≡ (own.step memory (event_of kind bytes)).memory) × ActTold (own.step memory (event_of kind bytes)).act r out out₁
-StepSays memory kind bytes out false r memory₁ out₁ = (r ≡ No 0) × (memory₁ ≡ memory) × (out₁ ≡ out)
+StepSays memory kind bytes out fits r memory₁ out₁ = TellSays memory (event_of kind bytes) out fits r memory₁ out₁
 
 unfoldable pub step_fits : (memory : List ℕ) (kind : ℕ) (bytes out : List ℕ) → Bool
 step_fits memory kind bytes out = length memory == length own.start && (nat_le kind 3 && nat_le 131072 (length out))

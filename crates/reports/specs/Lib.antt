@@ -1,4 +1,5 @@
 pub mod Command
+pub mod Verbs
 pub mod Reading
 pub mod Request
 pub mod Plain

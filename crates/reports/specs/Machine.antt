@@ -12,6 +12,7 @@ use Rattle.reports.specs.Reading.{Reading, no_command, a_command, read_command}
 use Rattle.reports.specs.Run.{Engine, Event, on, said, page, next, read, write, flush, done, refused, Step}
 use Rattle.reports.specs.Moves.{Moved, goes, acts, moves}
 use Rattle.reports.specs.Registers.{register_numbers, register_count, registers_in, at_phase, refusal_next}
+use Rattle.reports.specs.declared.refusal.Refusal.TheVariants.{NoCommand, Unknown, NoSuchName, NoHead}
 use Rattle.reports.specs.declared.registers.Phase.{Phase}
 use Rattle.reports.specs.declared.registers.Phase.TheVariants.{Idle, First, Second, Refusing, Flushing, Heading, Settling, Finishing}
 use Rattle.reports.specs.declared.registers.Ledger.{Ledger}
@@ -61,7 +62,7 @@ filled h = pick (h.sequence == 0) 2 h.end
 
 -- the head that counts; where neither page has one, the device is refused
 abbrev pub up : Registers → Option Standing → Registers
-up r None = refusal_next 9 r
+up r None = refusal_next NoHead r
 up r (Some s) = record { phase = Finishing; reply = r.reply; ledger = record { pages = r.ledger.pages; end = filled s.head; stands = s; coming = s.head.root } }
 
 -- what a page that was wanted does
@@ -78,21 +79,21 @@ page_told Finishing r p = r
 
 -- looking for a name under a root: where the root has no documents there is none of that name; what has some is not looked through yet
 abbrev pub missing : Root → Registers → Registers
-missing t r = pick (t.count == 0) (refusal_next 3 r) (refusal_next 2 r)
+missing t r = pick (t.count == 0) (refusal_next NoSuchName r) (refusal_next Unknown r)
 
--- A COMMAND begins, or is refused: 1, no command; 2, not known yet
+-- A COMMAND begins, or is refused
 abbrev pub begun : Registers → Command → Registers
-begun r (put n t b) = refusal_next 2 r
+begun r (put n t b) = refusal_next Unknown r
 begun r (remove n) = missing r.ledger.coming r
 begun r note = at_phase Flushing r
-begun r (ask k q) = refusal_next 2 r
-begun r (how_many q) = refusal_next 2 r
+begun r (ask k q) = refusal_next Unknown r
+begun r (how_many q) = refusal_next Unknown r
 begun r (fetch n) = missing r.ledger.stands.head.root r
-begun r (list_words p k) = refusal_next 2 r
-begun r sweep = refusal_next 2 r
+begun r (list_words p k) = refusal_next Unknown r
+begun r sweep = refusal_next Unknown r
 
 abbrev pub begun_from : Registers → Reading → Registers
-begun_from r no_command = refusal_next 1 r
+begun_from r no_command = refusal_next NoCommand r
 begun_from r (a_command c) = begun r c
 
 -- what an event does to the registers; what is no page is not taken for one

@@ -1,10 +1,10 @@
 -- The registers of the machine as the numbers that stand for them at the front of its memory, and back. Assumes nothing: these are definitions.
-use Rattle.std.specs.Prelude.{ℕ, ◌+◌, List, ◌∷◌, ◌++◌, ◌==◌, slice_index}
+use Rattle.std.specs.Prelude.{ℕ, ◌+◌, List, ◌∷◌, ◌++◌, ◌==◌, slice_index, codes}
 use Rattle.pages.specs.Lists.{pick}
-use Rattle.pages.specs.Head.{root_numbers, head_numbers}
-use Rattle.pages.specs.declared.roots.Segment.{Segment}
-use Rattle.pages.specs.declared.roots.Root.{Root}
+use Rattle.pages.specs.Head.{root_numbers, head_numbers, root_in, head_in}
 use Rattle.pages.specs.declared.roots.Standing.{Standing}
+use Rattle.reports.specs.declared.refusal.Refusal.{Refusal}
+use Rattle.reports.specs.declared.refusal.Refusal.TheVariants.{NoCommand, Unknown, NoSuchName, NoHead}
 use Rattle.reports.specs.declared.registers.Phase.{Phase}
 use Rattle.reports.specs.declared.registers.Phase.TheVariants.{Idle, First, Second, Refusing, Flushing, Heading, Settling, Finishing}
 use Rattle.reports.specs.declared.registers.Ledger.{Ledger}
@@ -41,23 +41,8 @@ abbrev pub register_count : ℕ
 register_count = 44
 
 -- what stands in memory from a place on
-abbrev pub segment_in : List ℕ → ℕ → Segment
-segment_in m at = record { start = slice_index m at; rows = slice_index m (at + 1); bytes = slice_index m (at + 2); docs = slice_index m (at + 3) }
-
-abbrev pub root_in : List ℕ → ℕ → Root
-root_in m at =
-    record {
-      count = slice_index m at;
-      weight = slice_index m (at + 1);
-      first = segment_in m (at + 2);
-      second = segment_in m (at + 6);
-      third = segment_in m (at + 10);
-      fourth = segment_in m (at + 14);
-    }
-
 abbrev pub standing_in : List ℕ → ℕ → Standing
-standing_in m at =
-    record { page = slice_index m at; head = record { sequence = slice_index m (at + 1); half = slice_index m (at + 2); end = slice_index m (at + 3); root = root_in m (at + 4) } }
+standing_in m at = record { page = slice_index m at; head = head_in m (at + 1) }
 
 abbrev pub ledger_in : List ℕ → ℕ → Ledger
 ledger_in m at = record { pages = slice_index m at; end = slice_index m (at + 1); stands = standing_in m (at + 2); coming = root_in m (at + 24) }
@@ -65,9 +50,23 @@ ledger_in m at = record { pages = slice_index m at; end = slice_index m (at + 1)
 abbrev pub registers_in : List ℕ → Registers
 registers_in m = record { phase = phase_of (slice_index m 0); reply = slice_index m 1; ledger = ledger_in m 2 }
 
--- the same registers at another phase; about to refuse, with a number
+-- the number that says why something is refused: no command; not known yet; no document of that name; no head
+abbrev pub refusal_number : Refusal → ℕ
+refusal_number NoCommand = 1
+refusal_number Unknown = 2
+refusal_number NoSuchName = 3
+refusal_number NoHead = 9
+
+-- what each refusal prints
+abbrev pub refusal_text : Refusal → List ℕ
+refusal_text NoCommand = codes "the bytes are no command"
+refusal_text Unknown = codes "the engine does not know this command yet"
+refusal_text NoSuchName = codes "no document has this name"
+refusal_text NoHead = codes "neither head page has a head"
+
+-- the same registers at another phase; about to refuse, and why
 abbrev pub at_phase : Phase → Registers → Registers
 at_phase p r = record { phase = p; reply = r.reply; ledger = r.ledger }
 
-abbrev pub refusal_next : ℕ → Registers → Registers
-refusal_next k r = record { phase = Refusing; reply = k; ledger = r.ledger }
+abbrev pub refusal_next : Refusal → Registers → Registers
+refusal_next why r = record { phase = Refusing; reply = refusal_number why; ledger = r.ledger }

@@ -1,12 +1,18 @@
 -- What is handed on of a command that was read: its numbers, and parts of the lent bytes. Assumes nothing: these are definitions.
-use Rattle.std.specs.Prelude.{◌≡◌, ℕ, List, Some, None, Option}
+use Rattle.std.specs.Prelude.{◌≡◌, ℕ, List, Some, None, Option, MatchOption}
+use Rattle.std.specs.Borrow.{Bor}
 use Rattle.questions.specs.Query.{Query}
 use Rattle.questions.specs.Spelling.{query_spelled}
+use Rattle.questions.specs.Reading.{Read, nothing, got}
 use Rattle.reports.specs.declared.reader.Request.{Request}
 use Rattle.reports.specs.declared.reader.Request.TheVariants.{Put, Remove, Note, Ask, Count, Fetch, Words, Sweep}
 use Rattle.reports.specs.Command.{Command, put, remove, note, ask, how_many, fetch, list_words, sweep}
 use Rattle.reports.specs.Promise.{Said, Never}
 use Rattle.reports.specs.Reading.{Reading, no_command, a_command, read_command}
+
+-- a text that was read, and the bytes after it; none if nothing is read
+abbrev pub TextRead : Read (List ℕ) → Option (Bor (List ℕ) × Bor (List ℕ)) → Type 0
+TextRead r o = MatchOption o (r ≡ nothing) (λ p. r ≡ got p.0.now p.1.now)
 
 -- a question is handed on as it is spelled
 unfoldable pub Handed : Command → Request → Type 0

@@ -4,13 +4,18 @@
 mod events;
 mod machine;
 mod reader;
+mod refusal;
 mod registers;
 mod starting;
 pub mod theorems;
+mod verb;
 
-pub use machine::step;
+pub use events::Event;
+pub use machine::{step, tell};
 pub use reader::{Request, read_command};
+pub use refusal::Refusal;
 pub use registers::CELLS;
+pub use verb::{UnknownVerb, Verb};
 
 // What one step of the engine does, and what the world outside is to do about it.
 #[derive(Clone, Copy)]
@@ -25,6 +30,6 @@ pub enum Told {
     Shows(u64),
     // The command is done.
     Done,
-    // The command is refused, with this number.
+    // The command is refused, with this number: that of a `Refusal`, or whatever stands for one in a memory that the engine did not make.
     No(u64),
 }

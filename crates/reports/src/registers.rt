@@ -1,10 +1,12 @@
 // The registers of the machine, and where they stand in its memory.
-ghost use Rattle.std.specs.Prelude.{◌≡◌, ◌+◌, ◌≤◌, [], ◌∷◌, length};
-ghost use Rattle.pages.specs.Head.{segment_numbers, root_numbers};
-ghost use Rattle.pages.specs.Places.{written};
-ghost use Rattle.reports.specs.Registers.{phase_number, phase_of, segment_in, root_in, standing_in, standing_numbers, ledger_in, ledger_numbers, registers_in, register_numbers, at_phase, refusal_next};
+#![tactic(auto, using(crate::proofs::Fronts::fronts))]
 
-use pages::{Head, Root, Segment, Standing};
+ghost use Rattle.std.specs.Prelude.{◌≡◌, ◌≤◌, length};
+ghost use Rattle.pages.specs.Places.{written};
+ghost use Rattle.reports.specs.Registers.{phase_number, phase_of, registers_in, register_numbers, at_phase, refusal_next};
+
+use crate::refusal::Refusal;
+use pages::{Head, Root, Standing};
 
 // How many numbers the machine's memory has.
 pub const CELLS: usize = 262_144;
@@ -33,27 +35,20 @@ pub enum Phase {
     Finishing,
 }
 
-impl Phase {
+impl From<Phase> for u64 {
+    ghost from_gives = { λ phase n. n ≡ phase_number phase };
+
     // The number that stands for a phase in memory.
-    fn number(self) -> u64
-        ensures { result ≡ phase_number self }
-    {
-        match self {
-            Phase::Idle => 0,
-            Phase::First => 1,
-            Phase::Second => 2,
-            Phase::Refusing => 3,
-            Phase::Flushing => 4,
-            Phase::Heading => 5,
-            Phase::Settling => 6,
-            Phase::Finishing => 7,
-        }
+    fn from(phase: Phase) -> u64 {
+        phase as u64
     }
+}
+
+impl From<u64> for Phase {
+    ghost from_gives = { λ n phase. phase ≡ phase_of n };
 
     // The phase that a number of memory stands for; at rest for all others.
-    fn of(number: u64) -> Phase
-        ensures { result ≡ phase_of number }
-    {
+    fn from(number: u64) -> Phase {
         match number {
             1 => Phase::First,
             2 => Phase::Second,
@@ -80,12 +75,59 @@ pub struct Ledger {
     pub coming: Root,
 }
 
+// All that the machine knows between two steps: what it is at, why it is about to refuse, and what is kept and where.
 #[derive(Clone, Copy)]
 pub struct Registers {
     pub phase: Phase,
-    // The number of the refusal that is to come.
+    // The number of the refusal that is to come. Memory that the engine did not make may have any number here, and it is told as it stands.
     pub reply: u64,
     pub ledger: Ledger,
+}
+
+impl From<[u64; REGISTERS]> for Registers {
+    ghost from_gives = { λ numbers registers. registers ≡ registers_in numbers };
+
+    fn from(numbers: [u64; REGISTERS]) -> Registers {
+        let [phase, reply, pages, end, page, ..] = numbers;
+        let head = <[u64; 21]>::try_from(&numbers[5..26]).unwrap();
+        let coming = <[u64; 18]>::try_from(&numbers[26..]).unwrap();
+        Registers {
+            phase: Phase::from(phase),
+            reply,
+            ledger: Ledger {
+                pages,
+                end,
+                stands: Standing {
+                    page,
+                    head: Head::from(head),
+                },
+                coming: Root::from(coming),
+            },
+        }
+    }
+}
+
+impl From<Registers> for [u64; REGISTERS] {
+    ghost from_gives = { λ registers numbers. numbers ≡ register_numbers registers };
+
+    fn from(registers: Registers) -> [u64; REGISTERS] {
+        let Registers {
+            phase,
+            reply,
+            ledger,
+        } = registers;
+        let mut numbers = [0; REGISTERS];
+        numbers[..5].copy_from_slice(&[
+            u64::from(phase),
+            reply,
+            ledger.pages,
+            ledger.end,
+            ledger.stands.page,
+        ]);
+        numbers[5..26].copy_from_slice(&<[u64; 21]>::from(ledger.stands.head));
+        numbers[26..].copy_from_slice(&<[u64; 18]>::from(ledger.coming));
+        numbers
+    }
 }
 
 impl Registers {
@@ -94,11 +136,8 @@ impl Registers {
         requires { 44 ≤ length memory.now }
         ensures { result ≡ registers_in memory.now }
     {
-        Registers {
-            phase: Phase::of(memory[0]),
-            reply: memory[1],
-            ledger: load_ledger(memory, 2),
-        }
+        let numbers = <[u64; REGISTERS]>::try_from(&memory[..REGISTERS]).unwrap();
+        Registers::from(numbers)
     }
 
     // Puts the registers back to the front of memory.
@@ -106,138 +145,24 @@ impl Registers {
         requires { 44 ≤ length memory.old }
         ensures { memory.new ≡ written memory.old 0 (register_numbers self) }
     {
-        put(memory, 0, self.phase.number());
-        put(memory, 1, self.reply);
-        put_ledger(memory, 2, self.ledger);
+        memory[..REGISTERS].copy_from_slice(&<[u64; REGISTERS]>::from(self));
     }
 
     // The same registers at another phase.
     pub(crate) fn at(self, phase: Phase) -> Registers
         ensures { result ≡ at_phase phase self }
     {
-        Registers {
-            phase,
-            reply: self.reply,
-            ledger: self.ledger,
-        }
+        Registers { phase, ..self }
     }
 
-    // About to refuse, with this number.
-    pub(crate) fn refusing(self, reply: u64) -> Registers
-        ensures { result ≡ refusal_next reply self }
+    // About to refuse, for this reason.
+    pub(crate) fn refusing(self, refusal: Refusal) -> Registers
+        ensures { result ≡ refusal_next refusal self }
     {
         Registers {
             phase: Phase::Refusing,
-            reply,
-            ledger: self.ledger,
+            reply: u64::from(refusal),
+            ..self
         }
     }
-}
-
-fn load_segment(memory: &[u64], at: usize) -> Segment
-    requires { at + 4 ≤ length memory.now }
-    ensures { result ≡ segment_in memory.now at }
-{
-    Segment {
-        start: memory[at],
-        rows: memory[at + 1],
-        bytes: memory[at + 2],
-        docs: memory[at + 3],
-    }
-}
-
-fn load_root(memory: &[u64], at: usize) -> Root
-    requires { at + 18 ≤ length memory.now }
-    ensures { result ≡ root_in memory.now at }
-{
-    Root {
-        count: memory[at],
-        weight: memory[at + 1],
-        first: load_segment(memory, at + 2),
-        second: load_segment(memory, at + 6),
-        third: load_segment(memory, at + 10),
-        fourth: load_segment(memory, at + 14),
-    }
-}
-
-fn load_standing(memory: &[u64], at: usize) -> Standing
-    requires { at + 22 ≤ length memory.now }
-    ensures { result ≡ standing_in memory.now at }
-{
-    let root = load_root(memory, at + 4);
-    let head = Head {
-        sequence: memory[at + 1],
-        half: memory[at + 2],
-        end: memory[at + 3],
-        root,
-    };
-    Standing {
-        page: memory[at],
-        head,
-    }
-}
-
-fn load_ledger(memory: &[u64], at: usize) -> Ledger
-    requires { at + 42 ≤ length memory.now }
-    ensures { result ≡ ledger_in memory.now at }
-{
-    let stands = load_standing(memory, at + 2);
-    let coming = load_root(memory, at + 24);
-    Ledger {
-        pages: memory[at],
-        end: memory[at + 1],
-        stands,
-        coming,
-    }
-}
-
-// One number to its place in memory.
-fn put(memory: &mut [u64], at: usize, n: u64)
-    requires { at + 1 ≤ length memory.old }
-    ensures { memory.new ≡ written memory.old at (n ∷ []) }
-{
-    memory[at] = n;
-}
-
-fn put_segment(memory: &mut [u64], at: usize, segment: Segment)
-    requires { at + 4 ≤ length memory.old }
-    ensures { memory.new ≡ written memory.old at (segment_numbers segment) }
-{
-    put(memory, at, segment.start);
-    put(memory, at + 1, segment.rows);
-    put(memory, at + 2, segment.bytes);
-    put(memory, at + 3, segment.docs);
-}
-
-fn put_root(memory: &mut [u64], at: usize, root: Root)
-    requires { at + 18 ≤ length memory.old }
-    ensures { memory.new ≡ written memory.old at (root_numbers root) }
-{
-    put(memory, at, root.count);
-    put(memory, at + 1, root.weight);
-    put_segment(memory, at + 2, root.first);
-    put_segment(memory, at + 6, root.second);
-    put_segment(memory, at + 10, root.third);
-    put_segment(memory, at + 14, root.fourth);
-}
-
-fn put_standing(memory: &mut [u64], at: usize, stands: Standing)
-    requires { at + 22 ≤ length memory.old }
-    ensures { memory.new ≡ written memory.old at (standing_numbers stands) }
-{
-    put(memory, at, stands.page);
-    put(memory, at + 1, stands.head.sequence);
-    put(memory, at + 2, stands.head.half);
-    put(memory, at + 3, stands.head.end);
-    put_root(memory, at + 4, stands.head.root);
-}
-
-fn put_ledger(memory: &mut [u64], at: usize, ledger: Ledger)
-    requires { at + 42 ≤ length memory.old }
-    ensures { memory.new ≡ written memory.old at (ledger_numbers ledger) }
-{
-    put(memory, at, ledger.pages);
-    put(memory, at + 1, ledger.end);
-    put_standing(memory, at + 2, ledger.stands);
-    put_root(memory, at + 24, ledger.coming);
 }

@@ -6,85 +6,72 @@ ghost use Rattle.reports.specs.Machine.{own};
 ghost use Rattle.reports.specs.Promise.{Whole, SpelledOnce, FoundInOrder, AnyOrder, WorthBounded, PhraseWords, Sets, SameTillNoted, Fair, FlushedStays};
 
 // THE MAIN PROMISE: on every device, whatever is said and whenever power stops, the engine does what the plain engine does.
-pub fn whole() -> u8
+#[tactic(auto, using(crate::proofs::Whole::whole_finding))]
+pub fn whole()
     ensures { Whole finding own }
-{
-    0
-}
+{}
 
 // The parts of the machine's memory have the room they need, and stand one after the other.
-pub fn layout_fits() -> u8
+pub fn layout_fits()
     ensures { LayoutFits }
-{
-    0
-}
+{}
 
 // No two commands are spelled alike.
-pub fn spelled_once() -> u8
+#[tactic(auto, using(crate::proofs::Reading::spelled_once))]
+pub fn spelled_once()
     ensures { SpelledOnce }
-{
-    0
-}
+{}
 
 // The best first: all that match, each once, and whoever stands before another is better.
-pub fn found_in_order() -> u8
+#[tactic(auto, using(crate::proofs::Promises::found_in_order))]
+pub fn found_in_order()
     ensures { FoundInOrder }
-{
-    0
-}
+{}
 
 // The order in which documents came makes no difference to what is found.
-pub fn any_order() -> u8
+#[tactic(auto, using(crate::proofs::Promises::any_order))]
+pub fn any_order()
     ensures { AnyOrder }
-{
-    0
-}
+{}
 
 // What a word is worth in a document is at most what it is worth at best.
-pub fn worth_bounded() -> u8
+#[tactic(auto, using(crate::proofs::Promises::worth_bounded))]
+pub fn worth_bounded()
     ensures { WorthBounded }
-{
-    0
-}
+{}
 
 // A phrase matches only where its words do, and a phrase of one word is the word.
-pub fn phrase_words() -> u8
+#[tactic(auto, using(crate::proofs::Promises::phrase_words))]
+pub fn phrase_words()
     ensures { PhraseWords }
-{
-    0
-}
+{}
 
 // What matches by and, or and not is as it should be, whatever way round.
-pub fn sets() -> u8
+#[tactic(auto, using(crate::proofs::Promises::sets))]
+pub fn sets()
     ensures { Sets }
-{
-    0
-}
+{}
 
 // Between two notes every asking shows the same, whatever is put and removed.
-pub fn same_till_noted() -> u8
+#[tactic(auto, using(crate::proofs::Turns::same_till_noted))]
+pub fn same_till_noted()
     ensures { SameTillNoted }
-{
-    0
-}
+{}
 
 // A word's worth rises with how often it stands and falls with length, all else equal.
-pub fn fair() -> u8
+#[tactic(auto, using(crate::proofs::Promises::fair))]
+pub fn fair()
     ensures { Fair }
-{
-    0
-}
+{}
 
 // What was flushed stays, whatever a stop leaves of later writes to other pages.
-pub fn flushed_stays() -> u8
+#[tactic(auto, using(crate::proofs::Promises::flushed_stays))]
+pub fn flushed_stays()
     ensures { FlushedStays }
-{
-    0
-}
+{}
 
 // What five questions find in four reports, by a table.
-pub fn examples_hold() -> u8
+#[tactic(auto, using(crate::proofs::Examples::examples_hold))]
+pub fn examples_hold()
     ensures { ExamplesHold }
-{
-    0
-}
+{}

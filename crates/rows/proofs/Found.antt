@@ -10,11 +10,11 @@ use Rattle.pages.proofs.Bytewise.{flat_append}
 use Rattle.pages.proofs.Lists.{earlier_transitive}
 use Rattle.pages.proofs.Sorted.{Pairwise}
 use Rattle.rows.specs.declared.cursor.Cursor.{Cursor}
-use Rattle.rows.specs.declared.search.Located.{Located}
+use Rattle.std.specs.declared.ops.ControlFlow.TheVariants.{Break}
 use Rattle.rows.specs.declared.search.Search.{Search}
 use Rattle.rows.specs.Rows.{Row, row_less, row_size, page_of, rows_end, row_at}
 use Rattle.rows.specs.Cursors.{PageRows, CutOn, together, page_start, passed, Sees}
-use Rattle.rows.specs.Searching.{from_key, key_before, first_before, middle, narrowed, Between, located_at, located}
+use Rattle.rows.specs.Searching.{from_key, key_before, first_before, middle, narrowed, Between, Located, ended, reached, come_to, located_at, located}
 use Rattle.rows.specs.Merging.{Rising}
 use Rattle.rows.specs.Laws.{SearchStands}
 use Rattle.rows.proofs.Ordered.{less_parts}
@@ -83,7 +83,7 @@ first_page k [] p = absurd (true≢false p.some)
 first_page k (r ∷ rs) p = ap (key_before k) (row_stands [] r rs p.fit.0 p.room)
 
 all_first : (P : Row → Type 0) (cut : List (List Row)) (j : ℕ) (q : Row) (qs : List Row) → get_or cut j [] ≡ q ∷ qs → AllByRecursion P (together cut) → P q
-all_first P [] j q qs e h = let z : ◌≡◌ {A = ℕ} 0 1 = cc in absurd (omega arith)
+all_first P [] j q qs e h = cc
 all_first P (p ∷ cut) zero q qs e h = (subst (λ (xs : List Row). AllByRecursion P (xs ++ together cut)) e h).0
 all_first P (p ∷ cut) (suc j) q qs e h = all_first P cut j q qs e (all_back P p (together cut) h)
 
@@ -170,6 +170,14 @@ search_on_page cut k s m w h b e =
     )
 
 -- ALONG THE PAGE
+ended_come_to : (end : Bool) (c : Cursor) → ended (come_to end c) ≡ end
+ended_come_to true c = refl
+ended_come_to false c = refl
+
+reached_come_to : (end : Bool) (c : Cursor) → reached (come_to end c) ≡ c
+reached_come_to true c = refl
+reached_come_to false c = refl
+
 module _ (pages : ℕ → Page) (cut : List (List Row)) (k : List ℕ) (c : Cursor) (r : Row) (rs : List Row) (on : CutOn pages cut) (sees : Sees cut c (r ∷ rs))
     (same : from_key k (together cut) ≡ from_key k (r ∷ rs)) where
   abbrev p : Page
@@ -178,28 +186,28 @@ module _ (pages : ℕ → Page) (cut : List (List Row)) (k : List ℕ) (c : Curs
   abbrev next : ℕ
   next = c.at + row_size r
 
-  located_past : earlier r.key k ≡ true → located k p c ≡ record { cursor = passed p c next; ended = leb (rows_end p) next }
+  located_past : earlier r.key k ≡ true → located k p c ≡ come_to (leb (rows_end p) next) (passed p c next)
   located_past e = ap (located_at k p c) (reads pages cut c r rs on sees).1 ∙ simp e
 
-  located_here : earlier r.key k ≡ false → located k p c ≡ record { cursor = c; ended = true }
+  located_here : earlier r.key k ≡ false → located k p c ≡ Break c
   located_here e = ap (located_at k p c) (reads pages cut c r rs on sees).1 ∙ simp e
 
   past : earlier r.key k ≡ true → from_key k (together cut) ≡ from_key k rs
   past e = same ∙ simp e
 
-  pub search_further : (located k p c).ended ≡ false →
-      ((located k p c).cursor.page ≡ c.page) × Sees cut (located k p c).cursor rs × (from_key k (together cut) ≡ from_key k rs)
+  pub search_further : ended (located k p c) ≡ false →
+      ((reached (located k p c)).page ≡ c.page) × Sees cut (reached (located k p c)) rs × (from_key k (together cut) ≡ from_key k rs)
   search_further f =
       ⊎_elim
       (λ e.
       let l = located_past e in
-      let less : next < rows_end p = leb-false (rows_end p) next (sym (ap (λ (x : Located). x.ended) l) ∙ f) in
+      let less : next < rows_end p = leb-false (rows_end p) next (sym (ap ended l ∙ ended_come_to _ _) ∙ f) in
       let at : passed p c next ≡ record { page = c.page; at = next } = simp (lt-ltb next (rows_end p) less) in (
-        ap (λ (x : Located). x.cursor.page) l ∙ ap (λ (x : Cursor). x.page) at,
-        subst (λ (x : Located). Sees cut x.cursor rs) (sym l) (goes_on pages cut c r rs on sees),
+        ap (λ (x : Located). (reached x).page) l ∙ ap (λ (x : Cursor). x.page) (reached_come_to _ _ ∙ at),
+        subst (λ (x : Cursor). Sees cut x rs) (sym (ap reached l ∙ reached_come_to _ _)) (goes_on pages cut c r rs on sees),
         past e,
       ))
-      (λ e. absurd (true≢false (sym (ap (λ (x : Located). x.ended) (located_here e)) ∙ f)))
+      (λ e. absurd (true≢false (sym (ap ended (located_here e)) ∙ f)))
       (cases_Bool (earlier r.key k))
 
 -- at the start of a page whose first row has no earlier key, a cursor sees no earlier key first
@@ -217,25 +225,25 @@ starts_late cut k n rs s h =
     (λ e. ap (first_before k) e.no_rows) s
 
 pub search_finds : (pages : ℕ → Page) (cut : List (List Row)) (k : List ℕ) (s : Search) (c : Cursor) (r : Row) (rs : List Row) → CutOn pages cut → Between cut k s → s.lo ≡ s.hi →
-    s.lo ≡ suc c.page → Sees cut c (r ∷ rs) → from_key k (together cut) ≡ from_key k (r ∷ rs) → (located k (pages c.page) c).ended ≡ true →
-    Sees cut (located k (pages c.page) c).cursor (from_key k (together cut))
+    s.lo ≡ suc c.page → Sees cut c (r ∷ rs) → from_key k (together cut) ≡ from_key k (r ∷ rs) → ended (located k (pages c.page) c) ≡ true →
+    Sees cut (reached (located k (pages c.page) c)) (from_key k (together cut))
 search_finds pages cut k s c r rs on b done at sees same f =
     let p = pages c.page in
     let next : ℕ = c.at + row_size r in
     ⊎_elim
     (λ e.
     let l = located_past pages cut k c r rs on sees same e in
-    let more : rows_end p ≤ next = leb-true (rows_end p) next (sym (ap (λ (x : Located). x.ended) l) ∙ f) in
+    let more : rows_end p ≤ next = leb-true (rows_end p) next (sym (ap ended l ∙ ended_come_to _ _) ∙ f) in
     let start : passed p c next ≡ page_start (suc c.page) = simp (le-ltb next (rows_end p) more) in
     let moved : Sees cut (page_start (suc c.page)) rs = subst (λ (x : Cursor). Sees cut x rs) start (goes_on pages cut c r rs on sees) in
     let late = starts_late cut k (suc c.page) rs moved (λ i. b.above (suc c.page) (omega arith) i) in
     let rows : from_key k (together cut) ≡ rs = past pages cut k c r rs on sees same e ∙ from_here k rs late in
-    subst (λ (x : Located). Sees cut x.cursor (from_key k (together cut))) (sym l)
-    (subst (λ (x : Cursor). Sees cut x (from_key k (together cut))) (sym start) (subst (Sees cut (page_start (suc c.page))) (sym rows) moved)))
+    subst (λ (x : Cursor). Sees cut x (from_key k (together cut))) (sym (ap reached l ∙ reached_come_to _ _ ∙ start))
+    (subst (Sees cut (page_start (suc c.page))) (sym rows) moved))
     (λ e.
     let l = located_here pages cut k c r rs on sees same e in
     let rows : from_key k (together cut) ≡ r ∷ rs = same ∙ simp e in
-    subst (λ (x : Located). Sees cut x.cursor (from_key k (together cut))) (sym l) (subst (Sees cut c) (sym rows) sees))
+    subst (λ (x : Cursor). Sees cut x (from_key k (together cut))) (sym (ap reached l)) (subst (Sees cut c) (sym rows) sees))
     (cases_Bool (earlier r.key k))
 
 pub search_laws : SearchStands

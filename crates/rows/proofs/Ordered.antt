@@ -1,10 +1,13 @@
 -- Laws of the order of rows, and of what a comparison answers. Assumes nothing.
 use Rattle.std.proofs.Common.{◌≡◌, ℕ, ◌<◌, Bool, true, false, ◌&&◌, eqb, ltb, ◌⊎◌, List, Ordering, Less, Equal, Greater, sym, refl, ap, ◌∙◌, subst, inl, inr, ⊎_elim, arith}
 use Rattle.std.proofs.lemmas.Bool.{cases_Bool, cases_order, and_parts, both_ways, ltb-true, eqb-true, lt-ltb, le-ltb, eq-eqb}
-use Rattle.std.specs.Ordering.{MatchOrdering}
+use Rattle.std.specs.Cmp.Lexicographic.{slice_cmp}
+use Rattle.std.specs.Ordering.{MatchOrdering, nat_cmp, ordering_then}
+use Rattle.std.proofs.lemmas.Cmp.{ranked}
 use Rattle.pages.specs.Lists.{pick, same, earlier}
 use Rattle.pages.proofs.Lists.{same_is, same_from, earlier_irreflexive, earlier_transitive, earlier_cases}
 use Rattle.words.specs.Compared.{Compared}
+use Rattle.words.proofs.Compared.{compared_cmp}
 use Rattle.rows.specs.Rows.{Row, row_less, row_same}
 use Rattle.rows.specs.Orders.{RowsCompared}
 use Rattle.rows.specs.Laws.{OrderStands}
@@ -136,3 +139,18 @@ pub rows_by_place : (r : Ordering) (a b : Row) → a.key ≡ b.key → a.doc ≡
 rows_by_place Less a b k d p = rows_less a b (less_from a b (inr (k, inr (d, p))))
 rows_by_place Equal a b k d p = rows_equal a b (row_ext a b k d p)
 rows_by_place Greater a b k d p = rows_more a b (less_from b a (inr (sym k, inr (sym d, p))))
+
+-- the keys decide, and at equal keys what comes after them
+module _ (a b : Row) where
+  keys_then : (k t : Ordering) → k ≡ slice_cmp nat_cmp a.key b.key → (a.key ≡ b.key → RowsCompared t a b) → RowsCompared (ordering_then k t) a b
+  keys_then Less t e f = rows_by_key Less a b (λ x. cc) (compared_cmp a.key b.key Less e)
+  keys_then Equal t e f = f (same_is a.key b.key (sym (compared_cmp a.key b.key Equal e).equal))
+  keys_then Greater t e f = rows_by_key Greater a b (λ x. cc) (compared_cmp a.key b.key Greater e)
+
+  docs_then : (d p : Ordering) → d ≡ nat_cmp a.doc b.doc → p ≡ nat_cmp a.place b.place → a.key ≡ b.key → RowsCompared (ordering_then d p) a b
+  docs_then Less p e f k = rows_by_doc Less a b k (λ x. cc) (ranked _ _ _ e)
+  docs_then Equal p e f k = rows_by_place p a b k (ranked _ _ Equal e) (ranked _ _ p f)
+  docs_then Greater p e f k = rows_by_doc Greater a b k (λ x. cc) (ranked _ _ _ e)
+
+  pub rows_compared : (r : Ordering) → r ≡ ordering_then (slice_cmp nat_cmp a.key b.key) (ordering_then (nat_cmp a.doc b.doc) (nat_cmp a.place b.place)) → RowsCompared r a b
+  rows_compared r e = subst (λ (x : Ordering). RowsCompared x a b) (sym e) (keys_then _ _ refl (docs_then _ _ refl refl))

@@ -1,8 +1,10 @@
 -- Laws of rows on a page: what was put there is read, and nothing else. Assumes nothing.
-use Rattle.std.proofs.Common.{◌≡◌, ℕ, zero, suc, ◌+◌, ◌-◌, ◌*◌, ◌%◌, ◌^◌, ◌<◌, ◌≤◌, Bool, true, false, ◌&&◌, ltb, leb, List, [], ◌∷◌, ◌++◌, length, get_or, take, drop, Some, None, Option, sym, refl, ap, ◌∙◌, subst, ⊎_elim, append_assoc, append-nil, arith, length-append, length-drop, length-take}
+use Rattle.std.proofs.Common.{◌≡◌, ℕ, zero, suc, ◌+◌, ◌-◌, ◌*◌, ◌^◌, ◌<◌, ◌≤◌, Bool, true, false, ◌&&◌, ◌==◌, ltb, leb, List, [], ◌∷◌, ◌++◌, length, get_or, set, take, drop, Some, None, Option, sym, refl, ap, ◌∙◌, subst, ⊎_elim, append_assoc, append-nil, arith, length-append, length-drop, length-take}
+use Rattle.std.specs.Int.{w32, from_be_bytes}
 use Rattle.std.specs.List.{AllByRecursion}
-use Rattle.std.proofs.lemmas.Bool.{cases_Bool, and_parts, and_from, and_left, and_right, le-leb, lt-leb, leb-true, lt-ltb, ltb-true, eq-eqb}
+use Rattle.std.proofs.lemmas.Bool.{cases_Bool, and_parts, and_from, and_left, and_right, le-leb, lt-leb, leb-true, lt-ltb, eq-eqb}
 use Rattle.std.proofs.lemmas.List.{take_at, drop_at, drop-drop, drop_all, drop_more, drop-append-le, take-append-drop, take-take, drop-take, length-take-le}
+use Rattle.std.proofs.lemmas.Slice.{between_is}
 use borrow.Rule.Slice.PartMut.{put_mid}
 use Rattle.pages.specs.Lists.{pick, flat, zeros}
 use Rattle.pages.specs.Bytes.{in_bytes, all_bytes, from_eight}
@@ -14,7 +16,7 @@ use Rattle.pages.proofs.Lists.{every_join, every_take, every_drop}
 use Rattle.pages.proofs.Device.{length_zeros, zeros_bytes}
 use Rattle.rows.specs.Rows.{Row, RowFits, Stand, row_bytes, row_size, rows_size, page_of, used, rows_end, begins, row_in, stand, row_at, and_then, rows_in, rows_of, room_for, with_row}
 use Rattle.rows.specs.Laws.{PagesStand}
-use Rattle.pages.proofs.Bytewise.{flat_append, in_bytes_before, drop_zeros, first_two}
+use Rattle.pages.proofs.Bytewise.{flat_append, in_bytes_before, drop_zeros}
 
 -- THE BYTES of a row
 pub length_row : (r : Row) → length (row_bytes r) ≡ row_size r
@@ -33,6 +35,11 @@ row_parts r bs =
     ap (λ xs. length r.key ∷ (r.key ++ xs) ++ bs) e
     ∙ ap (λ xs. length r.key ∷ xs)
     (append_assoc r.key (in_bytes 4 r.doc [] ++ in_bytes 2 r.place []) bs ∙ ap (λ xs. r.key ++ xs) (append_assoc (in_bytes 4 r.doc []) (in_bytes 2 r.place []) bs))
+
+pub never : (a b : Bool) → (a && (b && false)) ≡ false
+never true true = refl
+never true false = refl
+never false b = refl
 
 -- the row that a list begins with, by its parts
 module _ (ks ds ps bs : List ℕ) (four : length ds ≡ 4) (two : length ps ≡ 2) where
@@ -70,7 +77,6 @@ module _ (ks ds ps bs : List ℕ) (four : length ds ≡ 4) (two : length ps ≡ 
   pub row_in_no_bytes : (all_bytes ks && (all_bytes ds && all_bytes ps)) ≡ false → row_in (length ks ∷ rest) ≡ None
   unfolding row_in
   row_in_no_bytes h =
-      let never : (a b : Bool) → (a && (b && false)) ≡ false = λ a b. elim a as (λ x. (x && (b && false)) ≡ false) [ true ↦ elim b as (λ y. (y && false) ≡ false) [ true ↦ refl | false ↦ refl ] | false ↦ refl ] in
       let e : begins (length ks) rest ≡ false = ap (λ t. leb (length ks) 64 && (leb (length ks + 6) (length rest) && t)) (whole_bytes ∙ h) ∙ never (leb (length ks) 64) (leb (length ks + 6) (length rest)) in
       simp e
 
@@ -109,7 +115,7 @@ bounded xs k l b = subst (λ (m : ℕ). from_eight 0 xs < (0 + 1) * 256 ^ m) l (
 -- what is read fits, and does not go past the end of the list
 pub row_in_fits : (xs : List ℕ) (r : Row) → row_in xs ≡ Some r → RowFits r × (row_size r ≤ length xs)
 unfolding row_in
-row_in_fits [] r h = let z : ◌≡◌ {A = ℕ} 0 1 = cc in absurd (omega arith)
+row_in_fits [] r h = cc
 row_in_fits (n ∷ bs) r h =
     let it : Row = record { key = take n bs; doc = from_eight 0 (take 4 (drop n bs)); place = from_eight 0 (take 2 (drop (n + 4) bs)) } in
     ⊎_elim
@@ -131,9 +137,37 @@ row_in_fits (n ∷ bs) r h =
     let pf : from_eight 0 (take 2 (drop (n + 4) bs)) < 65536 = bounded (take 2 (drop (n + 4) bs)) 2 lp place in
     subst (λ (x : Row). RowFits x × (row_size x ≤ suc (length bs))) q
     (record { short = omega arith; bytes = key; doc_fits = df; place_fits = pf }, omega arith))
-    (λ t. let e : None ≡ Some r = subst (λ (x : Bool). pick x (Some it) None ≡ Some r) t h in let z : ◌≡◌ {A = ℕ} 0 1 = cc in absurd (omega arith))
+    (λ t. let e : None ≡ Some r = subst (λ (x : Bool). pick x (Some it) None ≡ Some r) t h in cc)
     (cases_Bool (begins n bs))
 
+-- THE END OF THE ROWS, of any page: by its first two numbers
+abbrev pub counted : Page → Bool
+counted p = leb 2 (length p) && all_bytes (take 2 p)
+
+pub end_is : (p : Page) → counted p ≡ true → used p ≤ 502 → used p + 2 ≤ length p → used p + 2 ≡ rows_end p
+unfolding rows_end
+end_is p c small inside =
+    let a = and_parts (leb 2 (length p)) (all_bytes (take 2 p)) c in
+    let e2 : leb (used p) 502 ≡ true = le-leb _ _ small in
+    let e3 : leb (2 + used p) (length p) ≡ true = le-leb _ _ (omega arith) in
+    let t : (leb 2 (length p) && (all_bytes (take 2 p) && (leb (used p) 502 && leb (2 + used p) (length p)))) ≡ true = and_from _ _ a.0 (and_from _ _ a.1 (and_from _ _ e2 e3)) in
+    sym (ap (λ (x : Bool). pick x (2 + used p) 0) t ∙ omega arith)
+
+pub no_end : (p : Page) → (counted p ≡ true → used p ≤ 502 → used p + 2 ≤ length p → ⊥) → 0 ≡ rows_end p
+unfolding rows_end
+no_end p n =
+    let t : Bool = leb 2 (length p) && (all_bytes (take 2 p) && (leb (used p) 502 && leb (2 + used p) (length p))) in
+    ⊎_elim
+    (λ h.
+    let a = and_parts (leb 2 (length p)) _ h in
+    let b = and_parts (all_bytes (take 2 p)) _ a.1 in
+    let c = and_parts (leb (used p) 502) (leb (2 + used p) (length p)) b.1 in
+    let f : 2 + used p ≤ length p = leb-true _ _ c.1 in
+    absurd (n (and_from _ _ a.0 b.0) (leb-true _ _ c.0) (omega arith)))
+    (λ h. sym (ap (λ (x : Bool). pick x (2 + used p) 0) h))
+    (cases_Bool t)
+
+-- WHAT IS READ, of any page
 -- A PAGE of which the first two bytes say how many follow: bytes bs, and anything behind
 pub record Holds (p : Page) (bs more : List ℕ) : Type 0 where
   pub is : p ≡ in_bytes 2 (length bs) (bs ++ more)
@@ -156,16 +190,13 @@ module _ (p : Page) (bs more : List ℕ) (h : Holds p bs more) where
   count_is = ap (take 2) shape ∙ take_at count (bs ++ more) 2 two
 
   pub end_held : rows_end p ≡ 2 + length bs
-  unfolding rows_end from_eight
+  unfolding from_eight
   end_held =
       let n : used p ≡ length bs = ap (from_eight 0) count_is ∙ from_in_bytes 2 (length bs) [] (omega (arith, h.fits)) in
       let b : all_bytes (take 2 p) ≡ true = ap all_bytes count_is ∙ in_bytes_bytes 2 (length bs) [] refl in
       let l = length_held in
-      let e1 : leb 2 (length p) ≡ true = le-leb _ _ (omega arith) in
-      let e2 : leb (used p) 502 ≡ true = le-leb _ _ (omega (arith, h.fits)) in
-      let e3 : leb (2 + used p) (length p) ≡ true = le-leb _ _ (omega arith) in
-      let t : (leb 2 (length p) && (all_bytes (take 2 p) && (leb (used p) 502 && leb (2 + used p) (length p)))) ≡ true = and_from _ _ e1 (and_from _ _ b (and_from _ _ e2 e3)) in
-      ap (λ (x : Bool). pick x (2 + used p) 0) t ∙ ap (λ x. 2 + x) n
+      let e = end_is p (and_from _ _ (le-leb 2 (length p) (omega arith)) b) (omega (arith, h.fits)) (omega arith) in
+      omega arith
 
   pub held : take (rows_end p) p ≡ count ++ bs
   held =
@@ -241,6 +272,11 @@ all_last P (x ∷ before) r after h = all_last P before r after h.1
 pub size_push : (rs : List Row) (r : Row) → rows_size (rs ++ r ∷ []) ≡ rows_size rs + row_size r
 size_push rs r = added_up_append row_size rs (r ∷ []) ∙ omega arith
 
+-- the row that the part from the offset to the end begins with
+pub stands : (p : List ℕ) (at e : ℕ) → e ≡ rows_end p → row_at p at ≡ stand at (row_in (take (e - at) (drop at p)))
+unfolding row_at
+stands p at e h = ap (λ n. stand at (row_in (drop at (take n p)))) (sym h) ∙ ap (λ xs. stand at (row_in xs)) (sym (between_is p at e))
+
 pub none_stands : (p : Page) (at : ℕ) → rows_end p ≤ at → row_at p at ≡ None
 unfolding row_at row_in
 none_stands p at h = ap (λ xs. stand at (row_in xs)) (drop_all at (take (rows_end p) p) (simp length-take (omega arith)))
@@ -302,42 +338,23 @@ page_with_row rs r h =
     ∙ ap (in_bytes 2 (rows_size (rs ++ r ∷ []))) (sym (append_assoc bs (row_bytes r) _) ∙ ap (λ xs. xs ++ zeros (510 - rows_size (rs ++ r ∷ []))) (sym rows))
     ∙ page_is (rs ++ r ∷ [])
 
--- THE END OF THE ROWS, of any page: by its first two numbers
-pub end_is : (p : Page) → 2 ≤ length p → get_or p 0 0 < 256 → get_or p 1 0 < 256 → 256 * get_or p 0 0 + get_or p 1 0 ≤ 502 → 256 * get_or p 0 0 + get_or p 1 0 + 2 ≤ length p →
-    256 * get_or p 0 0 + get_or p 1 0 + 2 ≡ rows_end p
-unfolding rows_end from_eight
-end_is p two x y small inside =
-    let e = first_two p two in
-    let n : used p ≡ 256 * get_or p 0 0 + get_or p 1 0 = ap (from_eight 0) e ∙ omega arith in
-    let b : all_bytes (take 2 p) ≡ true = ap all_bytes e ∙ simp (lt-ltb _ _ x, lt-ltb _ _ y) in
-    let e1 : leb 2 (length p) ≡ true = le-leb _ _ two in
-    let e2 : leb (used p) 502 ≡ true = le-leb _ _ (omega arith) in
-    let e3 : leb (2 + used p) (length p) ≡ true = le-leb _ _ (omega arith) in
-    let t : (leb 2 (length p) && (all_bytes (take 2 p) && (leb (used p) 502 && leb (2 + used p) (length p)))) ≡ true = and_from _ _ e1 (and_from _ _ b (and_from _ _ e2 e3)) in
-    sym (ap (λ (x : Bool). pick x (2 + used p) 0) t ∙ omega (arith, n))
+-- what two and four bytes spell, as the library reads them
+pub two_spell : (xs : List ℕ) → length xs ≡ 2 → get_or xs 0 0 * 256 + get_or xs 1 0 ≡ from_eight 0 xs
+unfolding from_eight
+two_spell [] l = absurd (omega arith)
+two_spell (a ∷ []) l = absurd (omega arith)
+two_spell (a ∷ b ∷ []) l = omega arith
+two_spell (a ∷ b ∷ c ∷ xs) l = absurd (omega arith)
 
-pub no_end : (p : Page) →
-    (2 ≤ length p → get_or p 0 0 < 256 → get_or p 1 0 < 256 → 256 * get_or p 0 0 + get_or p 1 0 ≤ 502 → 256 * get_or p 0 0 + get_or p 1 0 + 2 ≤ length p → ⊥) → 0 ≡ rows_end p
-unfolding rows_end from_eight
-no_end p n =
-    let t : Bool = leb 2 (length p) && (all_bytes (take 2 p) && (leb (used p) 502 && leb (2 + used p) (length p))) in
-    ⊎_elim
-    (λ h.
-    let a = and_parts (leb 2 (length p)) _ h in
-    let b = and_parts (all_bytes (take 2 p)) _ a.1 in
-    let c = and_parts (leb (used p) 502) (leb (2 + used p) (length p)) b.1 in
-    let two : 2 ≤ length p = leb-true _ _ a.0 in
-    let e = first_two p two in
-    let m : used p ≡ 256 * get_or p 0 0 + get_or p 1 0 = ap (from_eight 0) e ∙ omega arith in
-    let x = and_parts (ltb (get_or p 0 0) 256) _ (sym (ap all_bytes e) ∙ b.0) in
-    let y = and_parts (ltb (get_or p 1 0) 256) true x.1 in
-    let d : used p ≤ 502 = leb-true _ _ c.0 in
-    let f : 2 + used p ≤ length p = leb-true _ _ c.1 in
-    absurd (n two (ltb-true _ _ x.0) (ltb-true _ _ y.0) (omega arith) (omega arith)))
-    (λ h. sym (ap (λ (x : Bool). pick x (2 + used p) 0) h))
-    (cases_Bool t)
+pub four_spell : (xs : List ℕ) → length xs ≡ 4 → from_be_bytes w32 xs ≡ from_eight 0 xs
+unfolding from_eight
+four_spell [] l = absurd (omega arith)
+four_spell (a ∷ []) l = absurd (omega arith)
+four_spell (a ∷ b ∷ []) l = absurd (omega arith)
+four_spell (a ∷ b ∷ c ∷ []) l = absurd (omega arith)
+four_spell (a ∷ b ∷ c ∷ d ∷ []) l = omega arith
+four_spell (a ∷ b ∷ c ∷ d ∷ e ∷ xs) l = absurd (omega arith)
 
--- WHAT IS READ, of any page
 pub end_within : (p : Page) → (rows_end p ≤ 504) × (rows_end p ≤ length p)
 unfolding rows_end
 end_within p =
@@ -354,7 +371,7 @@ end_within p =
     (cases_Bool t)
 
 stand_parts : (at : ℕ) (o : Option Row) (s : Stand) → stand at o ≡ Some s → (o ≡ Some s.row) × (s.next ≡ at + row_size s.row)
-stand_parts at None s h = let z : ◌≡◌ {A = ℕ} 0 1 = cc in absurd (omega arith)
+stand_parts at None s h = cc
 stand_parts at (Some r) s h =
     let e : record { row = r; next = at + row_size r } ≡ s = cc in
     (ap (λ (x : Stand). Some x.row) e, subst (λ (x : Stand). x.next ≡ at + row_size x.row) e refl)
@@ -405,15 +422,6 @@ module _ (xs : List ℕ) (long : get_or xs 0 0 + 7 ≤ length xs) where
       ∙ (λ i. sym length_keys i ∷ rest_from 1 (n + 1) n (omega arith) i)
       ∙ ap (λ ys. length keys ∷ keys ++ ys) (rest_from (n + 1) (n + 5) 4 (omega arith) ∙ ap (λ ys. docs ++ ys) (rest_from (n + 5) (n + 7) 2 (omega arith)))
 
-  -- document and place together
-  pub tail_is : take (n + 7 - (n + 1)) (drop (n + 1) xs) ≡ docs ++ places
-  tail_is =
-      let l = length_docs in
-      let m = length_places in
-      ap (take (n + 7 - (n + 1)))
-      (rest_from (n + 1) (n + 5) 4 (omega arith) ∙ ap (λ ys. docs ++ ys) (rest_from (n + 5) (n + 7) 2 (omega arith)) ∙ sym (append_assoc docs places (drop (n + 7) xs)))
-      ∙ take_at (docs ++ places) (drop (n + 7) xs) (n + 7 - (n + 1)) (length-append docs places ∙ omega arith)
-
   pub row_in_cells : n ≤ 64 → all_bytes keys ≡ true → all_bytes docs ≡ true → all_bytes places ≡ true →
       row_in xs ≡ Some (record { key = keys; doc = from_eight 0 docs; place = from_eight 0 places })
   row_in_cells s k d p = ap row_in cut ∙ row_in_parts keys docs places (drop (n + 7) xs) length_docs length_places (let e = length_keys in omega arith) k d p
@@ -430,6 +438,14 @@ module _ (xs : List ℕ) (long : get_or xs 0 0 + 7 ≤ length xs) where
   pub no_row_by_place : all_bytes places ≡ false → row_in xs ≡ None
   no_row_by_place h = no_row_in_cells (and_right (all_bytes keys) (all_bytes docs && all_bytes places) (and_right (all_bytes docs) (all_bytes places) h))
 
+-- so many bytes are none only if one of them is no byte
+first_false : (a b : Bool) → b ≡ true → (a && b) ≡ false → a ≡ false
+first_false true b t h = sym t ∙ h
+first_false false b t h = refl
+
+pub no_bytes : (xs : List ℕ) (n : ℕ) → length xs ≡ n → (all_bytes xs && length xs == n) ≡ false → all_bytes xs ≡ false
+no_bytes xs n l h = first_false (all_bytes xs) (length xs == n) (eq-eqb _ _ l) h
+
 -- cells that are too few for any row, for their row, or whose key is too long
 pub row_in_few : (xs : List ℕ) → length xs < get_or xs 0 0 + 7 → row_in xs ≡ None
 unfolding row_in
@@ -445,18 +461,20 @@ pub put_next : {A : Type 0} (xs done rest ys : List A) (a k : ℕ) → xs ≡ do
 put_next xs done rest ys a k e l =
     ap (λ zs. put_mid a k zs ys) e ∙ (λ i. take_at done rest a l i ++ (ys ++ drop k (drop_at done rest a l i))) ∙ sym (append_assoc done ys (drop k rest))
 
--- a number in as many bytes as there are
-pub width_is : (ys : List ℕ) (w n k : ℕ) → ys ≡ in_bytes w n [] → length ys ≡ k → ys ≡ in_bytes k n []
-width_is ys w n k e l = let h = ap length e ∙ length_in_bytes w n [] in let q : w ≡ k = omega arith in e ∙ ap (λ m. in_bytes m n []) q
+-- the first cell is written
+pub set_first : (xs : List ℕ) (n : ℕ) → 1 ≤ length xs → set xs 0 n ≡ (n ∷ []) ++ drop 1 xs
+set_first [] n h = absurd (omega arith)
+set_first (x ∷ xs) n h = refl
+
+-- bytes are taken into as many cells
+pub taken_whole : (o : Bool) (new bs old : List ℕ) → o ≡ (length bs == length old) → new ≡ pick o bs old → length bs ≡ length old → new ≡ bs
+taken_whole o new bs old t n l = n ∙ ap (λ b. pick b bs old) (t ∙ eq-eqb _ _ l)
 
 -- the parts of a row, one after the other
-pub row_of_parts : (r : Row) (ns ks ds ps : List ℕ) → length r.key ≤ 64 → ns ≡ in_bytes 1 (length r.key) [] → ks ≡ r.key → ds ≡ in_bytes 4 r.doc [] → ps ≡ in_bytes 2 r.place [] →
-    ((ns ++ ks) ++ ds) ++ ps ≡ row_bytes r
-unfolding in_bytes
-row_of_parts r ns ks ds ps s a b c d =
-    let e : length r.key % 256 ≡ length r.key = omega arith in
-    (λ i. ((a i ++ b i) ++ c i) ++ d i)
-    ∙ ap (λ m. (((m ∷ []) ++ r.key) ++ in_bytes 4 r.doc []) ++ in_bytes 2 r.place []) e
+pub row_of_parts : (r : Row) (n : ℕ) (ks ds ps : List ℕ) → n ≡ length r.key → ks ≡ r.key → ds ≡ in_bytes 4 r.doc [] → ps ≡ in_bytes 2 r.place [] →
+    (((n ∷ []) ++ ks) ++ ds) ++ ps ≡ row_bytes r
+row_of_parts r n ks ds ps a b c d =
+    (λ i. (((a i ∷ []) ++ b i) ++ c i) ++ d i)
     ∙ append_assoc (length r.key ∷ r.key) (in_bytes 4 r.doc []) (in_bytes 2 r.place [])
     ∙ ap (λ ys. length r.key ∷ r.key ++ (in_bytes 4 r.doc [] ++ ys)) (sym (append-nil (in_bytes 2 r.place [])))
     ∙ sym (row_parts r []) ∙ append-nil (row_bytes r)

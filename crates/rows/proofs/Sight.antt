@@ -22,7 +22,7 @@ page_starts before [] h = inr (record { page_is = ap length (sym (append-nil bef
 page_starts before (rs ∷ after) h = starts_by before rs after (all_last PageRows before rs after h)
 
 nil_is : (r : Row) (rs : List Row) → r ∷ rs ≡ [] → ⊥
-nil_is r rs e = let z : ◌≡◌ {A = ℕ} 0 1 = cc in omega arith
+nil_is r rs e = cc
 
 -- what a cursor that sees a row stands on
 module _ (pages : ℕ → Page) (cut : List (List Row)) (c : Cursor) (r : Row) (rs : List Row) (k : CutOn pages cut) where

@@ -8,7 +8,7 @@ use Rattle.rows.specs.Cursors.{PageRows, CutOn, together, page_start, passed, Se
 use Rattle.pages.specs.Lists.{earlier}
 use Rattle.pages.proofs.Perm.{Perm}
 use Rattle.rows.specs.declared.search.Search.{Search}
-use Rattle.rows.specs.Searching.{from_key, middle, narrowed, Between, located}
+use Rattle.rows.specs.Searching.{from_key, middle, narrowed, Between, ended, reached, located}
 use Rattle.rows.specs.Merging.{Rising, Least, least, merge_all}
 use Rattle.rows.specs.Packing.{closed, pack, Packing}
 use Rattle.rows.specs.Rows.{Row, RowFits, Stand, row_less, row_same, row_size, rows_size, page_of, rows_end, row_at, rows_of, room_for, with_row}
@@ -73,11 +73,11 @@ pub record SearchStands : Type 0 where
   pub on_page_before : (cut : List (List Row)) (k : List ℕ) (s : Search) (m : ℕ) → AllByRecursion PageRows cut → Rising (together cut) → Between cut k s → s.lo ≡ suc m →
       (rest : List Row) × Sees cut (page_start m) rest × (from_key k (together cut) ≡ from_key k rest)
   pub goes_further : (pages : ℕ → Page) (cut : List (List Row)) (k : List ℕ) (c : Cursor) (r : Row) (rs : List Row) → CutOn pages cut → Sees cut c (r ∷ rs) →
-      from_key k (together cut) ≡ from_key k (r ∷ rs) → (located k (pages c.page) c).ended ≡ false →
-      ((located k (pages c.page) c).cursor.page ≡ c.page) × Sees cut (located k (pages c.page) c).cursor rs × (from_key k (together cut) ≡ from_key k rs)
+      from_key k (together cut) ≡ from_key k (r ∷ rs) → ended (located k (pages c.page) c) ≡ false →
+      ((reached (located k (pages c.page) c)).page ≡ c.page) × Sees cut (reached (located k (pages c.page) c)) rs × (from_key k (together cut) ≡ from_key k rs)
   pub finds : (pages : ℕ → Page) (cut : List (List Row)) (k : List ℕ) (s : Search) (c : Cursor) (r : Row) (rs : List Row) → CutOn pages cut → Between cut k s → s.lo ≡ s.hi →
-      s.lo ≡ suc c.page → Sees cut c (r ∷ rs) → from_key k (together cut) ≡ from_key k (r ∷ rs) → (located k (pages c.page) c).ended ≡ true →
-      Sees cut (located k (pages c.page) c).cursor (from_key k (together cut))
+      s.lo ≡ suc c.page → Sees cut c (r ∷ rs) → from_key k (together cut) ≡ from_key k (r ∷ rs) → ended (located k (pages c.page) c) ≡ true →
+      Sees cut (reached (located k (pages c.page) c)) (from_key k (together cut))
 
 -- MERGING: one step takes the least row; of sorted lists without a row in common the merge is the sorted list of all their rows
 pub record MergingStands : Type 0 where

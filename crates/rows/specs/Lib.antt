@@ -1,5 +1,5 @@
 pub mod Rows
-pub mod Views
+pub mod Keys
 pub mod Orders
 pub mod Cursors
 pub mod Packing

@@ -3,12 +3,16 @@ use Rattle.std.specs.Prelude.{◌≡◌, ℕ, zero, suc, ◌+◌, ◌-◌, ◌<�
 use Rattle.pages.specs.Lists.{pick, flat, added_up, same, earlier, zeros}
 use Rattle.pages.specs.Bytes.{in_bytes, all_bytes, from_eight}
 use Rattle.pages.specs.Device.{Page}
+use Rattle.rows.specs.declared.row.Row.{Row as KeptRow}
+use Rattle.rows.specs.declared.page.Stand.{Stand as KeptStand}
 
--- a key, the document that has it (its first page, counted from the segment's first document page), and the place in it
-pub record Row : Type 0 where
-  pub key : List ℕ
-  pub doc : ℕ
-  pub place : ℕ
+-- a key, which is the list of its bytes, the document that has it (its first page, counted from the segment's first document page), and the place in it
+abbrev pub Row : Type 0
+Row = KeptRow
+
+-- what stands at an offset: a row, and where the next one begins
+abbrev pub Stand : Type 0
+Stand = KeptStand
 
 -- the order: key by bytes, then document, then place
 unfoldable pub row_less : Row → Row → Bool
@@ -54,11 +58,6 @@ begins n bs = nat_le n 64 && (nat_le (n + 6) (length bs) && all_bytes (take (n +
 unfoldable pub row_in : List ℕ → Option Row
 row_in [] = None
 row_in (n ∷ bs) = pick (begins n bs) (Some (record { key = take n bs; doc = from_eight 0 (take 4 (drop n bs)); place = from_eight 0 (take 2 (drop (n + 4) bs)) })) None
-
--- what stands at an offset: a row, and where the next one begins
-pub record Stand : Type 0 where
-  pub row : Row
-  pub next : ℕ
 
 abbrev pub stand : ℕ → Option Row → Option Stand
 stand at None = None

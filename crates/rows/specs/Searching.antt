@@ -3,7 +3,8 @@ use Rattle.std.specs.Prelude.{◌≡◌, ℕ, suc, ◌+◌, ◌/◌, ◌<◌, �
 use Rattle.pages.specs.Lists.{pick, earlier}
 use Rattle.pages.specs.Device.{Page}
 use Rattle.rows.specs.declared.cursor.Cursor.{Cursor}
-use Rattle.rows.specs.declared.search.Located.{Located}
+use Rattle.std.specs.declared.ops.ControlFlow.{ControlFlow}
+use Rattle.std.specs.declared.ops.ControlFlow.TheVariants.{Continue, Break}
 use Rattle.rows.specs.declared.search.Search.{Search}
 use Rattle.rows.specs.Rows.{Row, Stand, rows_end, row_at}
 use Rattle.rows.specs.Cursors.{passed}
@@ -37,10 +38,25 @@ pub record Between (cut : List (List Row)) (k : List ℕ) (s : Search) : Type 0 
   pub below : (i : ℕ) → i < s.lo → first_before k (slice_index_or cut i []) ≡ true
   pub above : (i : ℕ) → s.hi ≤ i → i < length cut → first_before k (slice_index_or cut i []) ≡ false
 
+-- where one step along a page came to: the search goes on there, or it ended there
+abbrev pub Located : Type 0
+Located = ControlFlow Cursor Cursor
+
+abbrev pub ended : Located → Bool
+ended (Continue c) = false
+ended (Break c) = true
+
+abbrev pub reached : Located → Cursor
+reached (Continue c) = c
+reached (Break c) = c
+
+abbrev pub come_to : Bool → Cursor → Located
+come_to end c = pick end (Break c) (Continue c)
+
 -- one step along the page before `lo`: past a row with an earlier key; it ends at a row that has none, or with the page
 abbrev pub located_at : List ℕ → Page → Cursor → Option Stand → Located
-located_at k p c None = record { cursor = c; ended = true }
-located_at k p c (Some s) = pick (earlier s.row.key k) (record { cursor = passed p c s.next; ended = nat_le (rows_end p) s.next }) (record { cursor = c; ended = true })
+located_at k p c None = Break c
+located_at k p c (Some s) = pick (earlier s.row.key k) (come_to (nat_le (rows_end p) s.next) (passed p c s.next)) (Break c)
 
 abbrev pub located : List ℕ → Page → Cursor → Located
 located k p c = located_at k p c (row_at p c.at)

@@ -21,17 +21,11 @@ impl Cursor {
         ensures last { 18446744073709551615 ≤ self.page → result ≡ pick (nat_lt next (rows_end page.now)) (record { page = self.page; at = next }) self }
     {
         if next < rows_end(page) {
-            Cursor {
-                page: self.page,
-                at: next,
-            }
-        } else if self.page < u64::MAX {
-            Cursor {
-                page: self.page + 1,
-                at: 2,
-            }
-        } else {
-            self
+            return Cursor { at: next, ..self };
+        }
+        match self.page.checked_add(1) {
+            Some(page) => Cursor { page, at: 2 },
+            None => self,
         }
     }
 }

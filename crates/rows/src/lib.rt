@@ -3,6 +3,7 @@
 
 mod cursor;
 mod inplace;
+mod key;
 mod laws;
 mod page;
 mod row;
@@ -10,10 +11,11 @@ mod search;
 
 pub use cursor::Cursor;
 pub use inplace::compare_at;
+pub use key::Key;
 pub use laws::{
     cursor_stands, merging_stands, order_stands, packing_stands, pages_stand, search_stands,
 };
-pub use page::{put_row, row_at, rows_end};
+pub use page::{Stand, put_row, row_at, rows_end};
 pub use row::Row;
 pub use search::{Located, Search, locate};
 
@@ -23,66 +25,65 @@ mod tests {
     use std::cmp::Ordering;
     use std::test::Fail;
 
-    fn row(len: usize, first: u8, doc: u32) -> Row {
-        let mut key = [b'k'; 64];
-        key[0] = first;
-        Row {
-            key,
-            len,
-            doc,
-            place: 7,
-        }
+    fn row(len: usize, first: u8, doc: u32) -> Result<Row, Fail> {
+        let mut bytes = [b'k'; 64];
+        bytes[0] = first;
+        let Some(key) = bytes.get(..len).and_then(Key::new) else {
+            return Err(Fail::new("no key"));
+        };
+        Ok(Row { key, doc, place: 7 })
     }
 
     // Six rows with keys of 64 bytes: 426 bytes, so that 76 are left.
-    fn six_rows(page: &mut [u64]) -> bool {
-        let mut all = true;
+    fn six_rows(page: &mut [u64]) -> Result<(), Fail> {
         for doc in 0..6 {
-            all = put_row(page, &row(64, b'a', doc)) && all;
+            put_row(page, &row(64, b'a', doc)?)?;
         }
-        all
+        Ok(())
     }
 
     #[test]
-    fn a_page_is_filled_to_the_last_byte(rt: HostRuntime) {
+    fn a_page_is_filled_to_the_last_byte(rt: HostRuntime) -> Result<(), Fail> {
         let mut page = [0; 512];
-        assert!(rt; six_rows(&mut page));
-        assert!(rt; put_row(&mut page, &row(31, b'b', 6)));
-        assert!(rt; !put_row(&mut page, &row(32, b'c', 7)));
-        assert!(rt; put_row(&mut page, &row(31, b'c', 8)));
-        assert!(rt; !put_row(&mut page, &row(0, b'd', 9)));
+        six_rows(&mut page)?;
+        assert!(rt; put_row(&mut page, &row(31, b'b', 6)?).is_ok());
+        assert!(rt; put_row(&mut page, &row(32, b'c', 7)?).is_err());
+        assert!(rt; put_row(&mut page, &row(31, b'c', 8)?).is_ok());
+        assert!(rt; put_row(&mut page, &row(0, b'd', 9)?).is_err());
         assert_eq!(rt; rows_end(&page), 504);
         assert!(rt; row_at(&page, 504).is_none());
+        Ok(())
     }
 
     #[test]
     fn the_last_row_is_read(rt: HostRuntime) -> Result<(), Fail> {
         let mut page = [0; 512];
-        assert!(rt; six_rows(&mut page));
-        let Some((last, next)) = row_at(&page, 357) else {
+        six_rows(&mut page)?;
+        let Some(Stand { row: last, next }) = row_at(&page, 357) else {
             return Err(Fail::new("no row"));
         };
         assert_eq!(rt; next, 428);
-        assert_eq!(rt; last.len, 64);
+        assert_eq!(rt; last.key.len(), 64);
         assert_eq!(rt; last.doc, 5);
         assert_eq!(rt; last.place, 7);
-        assert_eq!(rt; last.compare(&row(64, b'a', 5)), Ordering::Equal);
-        assert_eq!(rt; last.compare(&row(63, b'a', 9)), Ordering::Greater);
+        assert_eq!(rt; last.compare(&row(64, b'a', 5)?), Ordering::Equal);
+        assert_eq!(rt; last.compare(&row(63, b'a', 9)?), Ordering::Greater);
         Ok(())
     }
 
     #[test]
-    fn junk_is_read_without_harm(rt: HostRuntime) {
+    fn junk_is_read_without_harm(rt: HostRuntime) -> Result<(), Fail> {
         assert_eq!(rt; rows_end(&[u64::MAX; 512]), 0);
         assert_eq!(rt; rows_end(&[1]), 0);
         assert!(rt; row_at(&[u64::MAX; 512], 2).is_none());
         let mut page = [0; 512];
-        assert!(rt; put_row(&mut page, &row(64, b'a', 1)));
+        assert!(rt; put_row(&mut page, &row(64, b'a', 1)?).is_ok());
         assert!(rt; row_at(&page, usize::MAX).is_none());
         page[3] = 256;
         assert!(rt; row_at(&page, 2).is_none());
         page[3] = 97;
         page[2] = 65;
         assert!(rt; row_at(&page, 2).is_none());
+        Ok(())
     }
 }

@@ -1,8 +1,8 @@
 -- Laws of the words of a text.
 use Rattle.std.proofs.Common.{◌≡◌, ℕ, suc, ◌+◌, ◌-◌, ◌*◌, ◌<◌, ◌≤◌, min, Bool, true, false, not, ◌&&◌, ltb, leb, List, [], ◌∷◌, ◌++◌, length, get_or, take, drop, sym, refl, ap, ◌∙◌, subst, ⊎_elim, append-nil, arith, length-drop, length-take, take-take, drop-drop}
 use mathlib.Core.Bool.{beq}
-use lib.Seq.{take-nil, append_snoc}
-use Rattle.std.proofs.lemmas.List.{at_drop_more, at_drop_all, drop_all, take_all, length-append}
+use lib.Seq.{append_snoc}
+use Rattle.std.proofs.lemmas.List.{at_drop_more, drop_all, take_all, length-append}
 use Rattle.std.proofs.lemmas.Bool.{and_parts, and_from, cases_Bool, cases_lt, le-leb, leb-true}
 use Rattle.std.proofs.lemmas.Bool.Decides.{nat_tests}
 use Rattle.pages.specs.Lists.{pick, every, each, added_up}
@@ -36,10 +36,6 @@ run_more of bs i h e = at_drop_more (run of) bs i 0 h ∙ run_in of _ _ e
 
 pub run_stops : (of : Bool) (bs : List ℕ) (i : ℕ) → i < length bs → beq (in_word (get_or bs i 0)) of ≡ false → run of (drop i bs) ≡ 0
 run_stops of bs i h e = at_drop_more (run of) bs i 0 h ∙ run_out of _ _ e
-
-pub run_ends : (of : Bool) (bs : List ℕ) (i : ℕ) → length bs ≤ i → run of (drop i bs) ≡ 0
-unfolding run
-run_ends of bs i h = at_drop_all (run of) bs i h
 
 pub stretch_first : (bs : List ℕ) (i : ℕ) → i < length bs → 1 ≤ stretch (drop i bs) → stretch (drop i bs) ≡ suc (stretch (drop (i + 1) bs))
 stretch_first bs i h some =
@@ -137,9 +133,6 @@ module _ (bs : List ℕ) (at s : ℕ) (starts : s ≡ at + gap (drop at bs)) whe
         inside = omega arith;
         comes = come_from_start ∙ words_first (drop s bs) some ∙ (λ i. each small (take (least i) (drop s bs)) ∷ words (rest i));
       }
-
-pub some_to_come : (bs : List ℕ) (at : ℕ) (w : Word) → Found bs at w → 1 ≤ length (to_come bs at)
-some_to_come bs at w f = let e = ap length f.comes in omega arith
 
 -- where a word that was found stands
 pub found_bounds : (bs : List ℕ) (at : ℕ) (w : Word) → Found bs at w → (at ≤ w.start) × (w.start + w.len ≤ w.end) × (w.end ≤ length bs) × (w.len ≤ 64)
@@ -258,16 +251,3 @@ words_few bs =
     let some = twice_taken (words bs) (words_every (λ _. true) (λ _. true) (λ w. leb 1 (length w)) (λ _ _ _. refl) (λ w h _ _. le-leb 1 (length w) h) bs (every_true bs)) in
     let fit = words_fit bs in
     omega arith
-
--- a part of a list whose bounds are held within the list
-pub clamped : (bs : List ℕ) (start n s m : ℕ) → s ≡ min start (length bs) → m ≡ min n (length bs - s) → take (s + m - s) (drop s bs) ≡ take n (drop start bs)
-clamped bs start n s m e f =
-    ⊎_elim
-    (λ l. let g : s ≡ start = omega arith in
-    let h : s + m - s ≡ m = omega arith in
-    ⊎_elim
-    (λ k. let i : m ≡ n = omega arith in (λ j. take ((h ∙ i) j) (drop (g j) bs)))
-    (λ k. take_all _ (drop s bs) (omega (arith, length-drop s bs)) ∙ sym (take_all n (drop s bs) (omega (arith, length-drop s bs))) ∙ ap (λ t. take n (drop t bs)) g)
-    (cases_lt n (length bs - s)))
-    (λ l. ap (take (s + m - s)) (drop_all s bs (omega arith)) ∙ take-nil (s + m - s) ∙ sym (ap (take n) (drop_all start bs l) ∙ take-nil n))
-    (cases_lt start (length bs))

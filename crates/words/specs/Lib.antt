@@ -1,4 +1,5 @@
 pub mod Words
 pub mod Stretches
+pub mod Standing
 pub mod Laws
 pub mod Compared

@@ -2,17 +2,19 @@
 // a word is its place in the text, and capitals are made small as bytes are compared.
 #![tactic(auto)]
 
-ghost use Rattle.std.specs.Prelude.{◌≡◌, ◌+◌, [], length, take, drop, MatchOption};
+ghost use Rattle.std.specs.Prelude.{◌≡◌, [], length, take, drop, MatchOption, ⊤};
+ghost use Rattle.std.specs.Iterator.{YieldsFirst, MakesProgress, item_count};
 ghost use Rattle.words.specs.Words.{in_word, small, words};
-ghost use Rattle.pages.specs.Lists.{pick, each};
-ghost use Rattle.words.specs.Compared.{read_as, Compared};
+ghost use Rattle.pages.specs.Lists.{each};
+ghost use Rattle.words.specs.Compared.{Compared};
 ghost use Rattle.words.specs.Laws.{WordsStand, OrderStands};
-ghost use Rattle.words.specs.Stretches.{run, to_come, Found};
+ghost use Rattle.words.specs.Stretches.{to_come, Found};
 
 use std::cmp::Ordering;
 
 // A word where it stands: its first byte, how many of its bytes count (at most 64), and where its stretch of bytes ends.
-#[derive(Clone, Copy, Debug, PartialEq)]
+// It is offsets and no slice: tokens store where a word begins, and the laws of words say where each one stands.
+#[derive(Clone, Copy, Debug, PartialEq, Eq)]
 pub struct Word {
     pub start: usize,
     pub len: usize,
@@ -37,33 +39,25 @@ pub fn in_word(b: u8) -> bool
     b.is_ascii_alphanumeric() || b >= 128
 }
 
-// A capital letter made small; any other byte as it is.
+// A capital letter made small; any other byte as it is. The body is the library's: the contract says it as the statements do, by `small`.
 pub fn made_small(b: u8) -> u8
     ensures { result ≡ small b }
 {
-    if b.is_ascii_uppercase() { b + 32 } else { b }
-}
-
-// Where a run of bytes ends that begins at `at`: bytes that make words, or, if `wordy` is false, bytes that make none.
-fn run_end(text: &[u8], at: usize, wordy: bool) -> usize
-    ensures { result ≡ at + run wordy (drop at text.now) }
-{
-    let mut i = at;
-    while i < text.len() && in_word(text[i]) == wordy {
-        i += 1;
-    }
-    i
+    b.to_ascii_lowercase()
 }
 
 // The next word from `at` on, or none if no byte that makes words is left. To go on, ask from the word's `end`.
 pub fn word_from(text: &[u8], at: usize) -> Option<Word>
     ensures { MatchOption result (to_come text.now at ≡ []) (Found text.now at) }
 {
-    let start = run_end(text, at, false);
+    let rest = &text[at.min(text.len())..];
+    let start = at + rest.iter().position(|b| in_word(*b)).unwrap_or(rest.len());
     if start >= text.len() {
         return None;
     }
-    let end = run_end(text, start + 1, true);
+    // The first byte makes words. The stretch goes on from the second one, to the first that makes none.
+    let more = &text[start + 1..];
+    let end = start + 1 + more.iter().position(|b| !in_word(*b)).unwrap_or(more.len());
     Some(Word {
         start,
         len: (end - start).min(64),
@@ -79,15 +73,36 @@ pub struct Words<'a> {
 }
 
 impl<'a> Words<'a> {
+    // All words of a text.
     pub fn new(text: &'a [u8]) -> Self
         ensures text { result.text.now ≡ text.now }
         ensures first { result.at ≡ 0 }
     {
-        Words { text, at: 0 }
+        Words::from_offset(text, 0)
     }
 
+    // The words from an offset on: a word that has begun before it is cut there.
+    pub fn from_offset(text: &'a [u8], at: usize) -> Self
+        ensures text { result.text.now ≡ text.now }
+        ensures first { result.at ≡ at }
+    {
+        Words { text, at }
+    }
+}
+
+impl<'a> Iterator for Words<'a> {
+    ghost use Rattle.words.specs.Standing.{words_left};
+
+    type Item = Word;
+
+    ghost next_gives = { YieldsFirst words_left };
+
+    ghost remaining = { item_count words_left };
+
     // The next word. What was to come is this word and what is to come after it, or nothing.
-    pub fn next_word(&mut self) -> Option<Word>
+    fn next(&mut self) -> Option<Word>
+        ensures steps { YieldsFirst words_left self.old result self.new }
+        ensures goes { MakesProgress (λ _. ⊤) (item_count words_left) self.old result self.new }
         ensures text { self.new.text.now ≡ self.old.text.now }
         ensures word { MatchOption result (to_come self.old.text.now self.old.at ≡ []) (Found self.old.text.now self.old.at) }
         ensures next { MatchOption result (self.new.at ≡ self.old.at) (λ w. self.new.at ≡ w.end) }
@@ -102,69 +117,42 @@ impl<'a> Words<'a> {
 pub fn count(text: &[u8]) -> u64
     ensures { result ≡ length (words text.now) }
 {
-    let mut n = 0;
-    let mut left = Words::new(text);
-    while let Some(_word) = left.next_word() {
-        n += 1;
-    }
-    n
+    Words::new(text).count() as u64
 }
 
-// A byte with a capital made small, or as it is.
-fn read(b: u8, made: bool) -> u8
-    ensures { result ≡ pick made (small b) b }
-{
-    if made { made_small(b) } else { b }
-}
-
-// Compares two rows of bytes, each with capitals made small or as they are: the first byte that differs decides,
-// and of two rows that agree as far as they go the shorter one is the earlier one.
-fn compare(a: &[u8], made_a: bool, b: &[u8], made_b: bool) -> Ordering
-    ensures { Compared result (read_as made_a a.now) (read_as made_b b.now) }
-{
-    for i in 0..a.len().min(b.len()) {
-        match read(a[i], made_a).cmp(&read(b[i], made_b)) {
-            Ordering::Equal => {}
-            order => return order,
-        }
-    }
-    a.len().cmp(&b.len())
-}
-
-// Compares two keys, byte by byte as they are.
+// Compares two keys, byte by byte as they are: the first byte that differs decides, and of two keys that agree as far as
+// they go the shorter one is the earlier one. The body is the library's: the contract says it as the statements do, by `earlier`.
 pub fn compare_keys(a: &[u8], b: &[u8]) -> Ordering
     ensures { Compared result a.now b.now }
 {
-    compare(a, false, b, false)
+    a.cmp(b)
 }
 
 // Compares a word where it stands in a text with a key: capitals of the word are made small.
 pub fn compare_to_key(word: &[u8], key: &[u8]) -> Ordering
     ensures { Compared result (each small word.now) key.now }
 {
-    compare(word, true, key, false)
+    word.iter().map(|b| made_small(*b)).cmp(key.iter().copied())
 }
 
 // Compares two words where they stand in a text, or in two.
 pub fn compare_words(a: &[u8], b: &[u8]) -> Ordering
     ensures { Compared result (each small a.now) (each small b.now) }
 {
-    compare(a, true, b, true)
+    a.iter()
+        .map(|x| made_small(*x))
+        .cmp(b.iter().map(|y| made_small(*y)))
 }
 
 // The words of every text: cut at each byte that makes none, of 1 to 64 bytes, small, few enough for the text.
-pub fn words_stand() -> u8
+pub fn words_stand()
     ensures { WordsStand }
-{
-    0
-}
+{}
 
 // The order of words is a strict total order.
-pub fn order_stands() -> u8
+pub fn order_stands()
     ensures { OrderStands }
-{
-    0
-}
+{}
 
 #[cfg(test)]
 mod tests {
@@ -181,7 +169,7 @@ mod tests {
     fn words_come_in_order(rt: HostRuntime) {
         let mut left = Words::new(b"- Two words");
         assert_eq!(rt;
-            left.next_word(),
+            left.next(),
             Some(Word {
                 start: 2,
                 len: 3,
@@ -189,14 +177,14 @@ mod tests {
             })
         );
         assert_eq!(rt;
-            left.next_word(),
+            left.next(),
             Some(Word {
                 start: 6,
                 len: 5,
                 end: 11,
             })
         );
-        assert_eq!(rt; left.next_word(), None);
+        assert_eq!(rt; left.next(), None);
     }
 
     #[test]
@@ -222,10 +210,8 @@ mod tests {
     }
 
     fn letter_at_even_places(text: &mut [u8]) {
-        for i in 0..text.len() {
-            if i % 2 == 0 {
-                text[i] = b'a';
-            }
+        for b in text.iter_mut().step_by(2) {
+            *b = b'a';
         }
     }
 

@@ -1,28 +1,22 @@
-use Rattle.std.proofs.Common.{◌≡◌, [], ◌++◌, drop, is_ok, vec_items, sym, ap, ◌∙◌, append-nil, arith, drop_of_length-le}
-use Rattle.std.proofs.ResultArms.{chosen}
-use Rattle.console.proofs.Requests.{rest_spelled, all_spelled, step_more, step_last}
+use Rattle.std.proofs.Common.{[], ◌∷◌, ◌++◌, vec_items, sym, ap, ◌∙◌, append_assoc, arith, take_all}
+use Rattle.std.proofs.lemmas.Result.{on_ok_weaker}
+use Rattle.questions.specs.Spelling.{query_spelled}
+use Rattle.console.specs.Typed.{query_of, all_of}
+use Rattle.console.proofs.Requests.{with_both, one_more, all_spelled}
 use Rattle.console.proofs.spelling.add_words.Goals as goal
-use Rattle.console.proofs.spelling.add_words.Goals.{then-i-words+in_ok-extend_from_slice, else-i-words}
 
-pub loop-i-init : goal.loop-i-init
-loop-i-init c some = ap (λ l. vec_items c.args.bytes.now ++ l) (all_spelled c.args.words.now some)
-
-pub loop-i-preserved : goal.loop-i-preserved
-loop-i-preserved c some =
-    let words = c.args.words.now in
-    let i = c.loop-i.i in
-    let old = vec_items c.loop-i.bytes in
-    let added = c.in_ok-add_word.ensures in
-    elim c.if-i-words.branch [
-      | then-i-words+in_ok-extend_from_slice w ↦
-          let five = chosen _ _ _ _ w.extend_from_slice.ensures.items (ap is_ok w.in_ok-extend_from_slice.was) in
-          step_more old _ _ words i c.index-words-i.result w.if-i-words.true c.index-words-i.is (ap vec_items w.bytes-is ∙ five) added ∙ c.loop-i.invariant some
-      | else-i-words w ↦
-          step_last old _ _ words i c.index-words-i.result (omega (arith, w.if-i-words.false)) c.index-words-i.is (ap vec_items w.bytes-is) added ∙ c.loop-i.invariant some
-    ]
+pub loop-word-preserved : goal.loop-word-preserved
+loop-word-preserved c =
+    let five = c.in_ok-push.ensures.items ∙ ap (λ k. vec_items c.loop-word.bytes ++ k ∷ []) c.from.ensures in
+    one_more (vec_items c.args.bytes.now) _ _ _ c.in-Some.others.now c.loop-word.word-index c.word-item.result (omega arith) c.word-item.is c.loop-word.invariant five c.in_ok-add_word.ensures
 
 pub returns : goal.returns
-returns c some =
-    let bytes = vec_items c.loop-i.bytes in
-    let none : drop c.loop-i.i c.args.words.now ≡ [] = drop_of_length-le c.args.words.now {i = c.loop-i.i} (omega arith) in
-    sym (append-nil bytes) ∙ ap (λ l. bytes ++ rest_spelled l) (sym none) ∙ c.loop-i.invariant some
+returns c =
+    let old = vec_items c.args.bytes.now in
+    let others = c.in-Some.others.now in
+    let last = c.in-Some.last.now in
+    let before = c.loop-word.invariant ∙ ap (λ ws. old ++ with_both ws) (take_all c.loop-word.word-index others (omega arith)) in
+    let all = all_spelled others last ∙ ap (λ ws. query_spelled (all_of ws)) (sym c.in-Some.ensures.cases.0) in
+    on_ok_weaker c.add_word-2.result
+    (λ h some. h ∙ ap (λ l. l ++ query_spelled (query_of last)) before ∙ append_assoc old (with_both others) (query_spelled (query_of last)) ∙ ap (λ l. old ++ l) all)
+    c.add_word-2.ensures

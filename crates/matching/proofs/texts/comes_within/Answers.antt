@@ -1,19 +1,13 @@
-use Rattle.std.proofs.Common.{◌≡◌, suc, ◌+◌, ◌-◌, sym, ◌∙◌, arith}
-use Rattle.matching.proofs.Words.{within_here, within_later, within_ended}
+use Rattle.std.proofs.Common.{rules, tests}
+use Rattle.std.proofs.lemmas.Iterator.{YieldsList-from_take}
+use Rattle.std.proofs.lemmas.Iterator.Consumers.{YieldsList-at}
+use Rattle.std.proofs.lemmas.Iterator.Search.{any_from_yields_List}
+use Rattle.pages.specs.Lists.{same}
+use Rattle.words.proofs.Iterated.{yields_words}
 use Rattle.matching.proofs.texts.comes_within.Goals as goal
 
-pub returns-in_default : goal.returns-in_default
-returns-in_default c = sym (c.loop.invariant ∙ within_ended (c.args.most - c.loop.counter) c.args.key.now _ c.in_default.ensures)
-
-pub returns-then-is_word : goal.returns-then-is_word
-returns-then-is_word c =
-    sym
-    (c.loop.invariant
-    ∙ within_here (c.args.most - c.loop.counter) c.args.key.now _ _ _ (omega arith) c.in-Some.ensures.comes (sym c.is_word.ensures ∙ c.if-is_word.true))
-
-pub loop-preserved : goal.loop-preserved
-loop-preserved c =
-    let one : c.args.most - c.loop.counter ≡ suc (c.args.most - (c.loop.counter + 1)) = omega arith in
-    c.loop.invariant
-    ∙ within_later (c.args.most - c.loop.counter) (c.args.most - (c.loop.counter + 1)) c.args.key.now _ _ _ one c.in-Some.ensures.comes
-    (sym c.is_word.ensures ∙ c.if-is_word.false)
+pub returns : goal.returns
+returns c =
+    any_from_yields_List (same c.args.key.now) c.any.new.self _ _ c.any.ensures.ran
+    (YieldsList-from_take c.args.most (YieldsList-at c.take.ensures.source (yields_words c.args.text.now c.args.from _ c.from_offset.ensures.text c.from_offset.ensures.first)) c.take.ensures.count)
+    (λ x b q k. search (rules, tests))

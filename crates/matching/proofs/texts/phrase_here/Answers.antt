@@ -1,30 +1,22 @@
-use Rattle.std.proofs.Common.{vec_items, sym, ap, ◌∙◌}
+use Rattle.std.proofs.Common.{rules, tests, vec_items, length, nat_eq, ap, ◌∙◌}
+use Rattle.std.proofs.lemmas.Iterator.{YieldsList-from_slice, YieldsList-from_zip}
+use Rattle.std.proofs.lemmas.Iterator.Consumers.{YieldsList-at, count_from_yields_List}
+use Rattle.std.proofs.lemmas.Iterator.Search.{YieldsList-from_take_while}
 use Rattle.pages.specs.Lists.{same}
-use Rattle.words.specs.Stretches.{word_at}
-use Rattle.matching.proofs.Words.{here_next, here_other, here_ended, here_all, next_of, none_left}
+use Rattle.words.proofs.Iterated.{yields_words}
+use Rattle.matching.proofs.Words.{here_counted}
 use Rattle.matching.proofs.texts.phrase_here.Goals as goal
 
-pub returns-in_default : goal.returns-in_default
-returns-in_default c =
-    let word = c.word-item.result in
-    let next = next_of vec_items c.args.phrase.now c.loop-word.word-index word c.loop-word-test.true c.word-item.is in
-    sym (c.loop-word.invariant ∙ here_ended _ _ _ (vec_items word) next c.in_default.ensures)
-
-pub returns-then-not-is_word : goal.returns-then-not-is_word
-returns-then-not-is_word c =
-    let word = c.word-item.result in
-    let w = word_at c.args.text.now c.in-Some.found.start c.in-Some.found.len in
-    let next = next_of vec_items c.args.phrase.now c.loop-word.word-index word c.loop-word-test.true c.word-item.is in
-    let other = ap (λ v. same v w) (sym c.as_slice.ensures.value) ∙ sym c.if-not-is_word.ensures in
-    sym (c.loop-word.invariant ∙ here_other _ _ _ _ (vec_items word) w next c.in-Some.ensures.comes other)
-
-pub loop-word-preserved : goal.loop-word-preserved
-loop-word-preserved c =
-    let word = c.word-item.result in
-    let w = word_at c.args.text.now c.in-Some.found.start c.in-Some.found.len in
-    let next = next_of vec_items c.args.phrase.now c.loop-word.word-index word c.loop-word-test.true c.word-item.is in
-    let here = ap (λ v. same v w) (sym c.as_slice.ensures.value) ∙ sym c.if-not-is_word.ensures in
-    c.loop-word.invariant ∙ here_next _ _ _ _ (vec_items word) w next c.in-Some.ensures.comes here
-
 pub returns : goal.returns
-returns c = sym (c.loop-word.invariant ∙ here_all _ _ (none_left vec_items c.args.phrase.now c.loop-word.word-index c.loop-word-test.false))
+returns c =
+    let phrase = c.args.phrase.now in
+    let text = c.args.text.now in
+    ap (λ n. nat_eq n (length phrase))
+    (count_from_yields_List c.take_while.result c.count-matched.result c.count-matched.ensures.ran
+    (YieldsList-from_take_while _ (λ p. same (vec_items p.0) p.1)
+    (YieldsList-at c.take_while.ensures.source
+    (YieldsList-from_zip
+    (YieldsList-at c.zip.ensures.first (YieldsList-from_slice phrase c.iter.ensures.rest))
+    (YieldsList-at c.zip.ensures.second (yields_words text c.args.from _ c.from_offset.ensures.text c.from_offset.ensures.first))))
+    c.take_while.ensures.closure c.take_while.ensures.done (λ x b q k. search (rules, tests))))
+    ∙ here_counted vec_items phrase _

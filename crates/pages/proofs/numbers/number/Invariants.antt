@@ -2,6 +2,6 @@ use Rattle.std.proofs.Common.{◌≡◌, ◌^◌, ◌<◌, ◌≤◌, length, ta
 use Rattle.pages.specs.Bytes.{from_eight}
 use Rattle.pages.proofs.numbers.number.Given as goal
 
--- the bytes so far are read; there are eight at most, and no more than there are
-abbrev pub invariant-loop-i : goal.invariant-loop-i
-invariant-loop-i l = (l.n ≡ from_eight 0 (take l.i l.bytes)) × (l.n < 256 ^ l.i) × (take l.count l.bytes ≡ take 8 l.bytes) × (l.count ≤ 8) × (l.count ≤ length l.bytes)
+-- the bytes so far are read, and there are eight at most
+abbrev pub invariant-loop-byte : goal.invariant-loop-byte
+invariant-loop-byte l = (l.n ≡ from_eight 0 (take l.byte-index l.first)) × (l.n < 256 ^ l.byte-index) × (length l.first ≤ 8)

@@ -1,7 +1,5 @@
-use Rattle.std.proofs.Common.{drop}
-use Rattle.questions.specs.Best.{hits_in}
-use Rattle.questions.proofs.Rows.{HoldsBest}
+use Rattle.questions.proofs.Pairs.{Kept}
 use Rattle.questions.proofs.picking.keep_best.Given as goal
 
-abbrev pub invariant-loop-i : goal.invariant-loop-i
-invariant-loop-i l = HoldsBest (drop l.i (hits_in l.count l.pairs)) l.most l.initial.out l.held l.out
+abbrev pub invariant-loop-pair : goal.invariant-loop-pair
+invariant-loop-pair l = Kept l.hits l.most l.initial.out l.pair-iterator.iter.rest.now l.held l.out

@@ -1,26 +1,25 @@
-use Rattle.std.proofs.Common.{◌≡◌, ◌+◌, ◌-◌, [], length, refl, ap, ◌∙◌, arith, rules}
+use Rattle.std.proofs.Common.{◌≡◌, ◌+◌, ◌-◌, [], ap, sym, ◌∙◌, arith, rules}
 use Rattle.std.proofs.lemmas.List.{places}
-use Rattle.rows.specs.Rows.{row_size}
-use Rattle.rows.specs.Views.{row_of}
+use Rattle.std.proofs.lemmas.Bool.{eq-eqb}
+use Rattle.pages.specs.Lists.{pick}
 use Rattle.pages.specs.Bytes.{in_bytes}
-use Rattle.rows.proofs.Read.{no_room, has_room, row_put, width_is}
+use Rattle.rows.specs.Rows.{row_size, with_row}
+use Rattle.pages.proofs.Places.{in_bytes_high}
+use Rattle.rows.proofs.Read.{no_room, has_room, row_put, taken_whole}
 use Rattle.rows.proofs.page.put_row.Goals as goal
 use Rattle.rows.proofs.page.put_row.Goals.{then-end-lt2-via-then-end-lt2, then-end-lt2-via-else-end-lt2+then-next-gt504, then-end-lt2-via-else-end-lt2+else-next-gt504+then-next-page}
 
-pub returns-then-end-lt2 : goal.returns-then-end-lt2
-returns-then-end-lt2 c =
+pub returns-then-end-lt2-clause-fits : goal.returns-then-end-lt2-clause-fits
+returns-then-end-lt2-clause-fits c =
     let e = c.rows_end-end.ensures.end in
     let s = c.size.ensures.size in
-    record {
-      fits = no_room c.args.page.now (row_of c.args.row.now)
-          (λ two small inside.
-          elim c.then-end-lt2.branch [
-            | then-end-lt2-via-then-end-lt2 w ↦ omega (arith, w.if-end-lt2.true)
-            | then-end-lt2-via-else-end-lt2+then-next-gt504 w ↦ omega (arith, w.if-next-gt504.true)
-            | then-end-lt2-via-else-end-lt2+else-next-gt504+then-next-page w ↦ omega (arith, w.if-next-page.true)
-          ]);
-      page = refl;
-    }
+    no_room c.args.page.now c.args.row.now
+    (λ two small inside.
+    elim c.then-end-lt2.branch [
+      | then-end-lt2-via-then-end-lt2 w ↦ omega (arith, w.if-end-lt2.true)
+      | then-end-lt2-via-else-end-lt2+then-next-gt504 w ↦ omega (arith, w.if-next-gt504.true)
+      | then-end-lt2-via-else-end-lt2+else-next-gt504+then-next-page w ↦ omega (arith, w.if-next-page.true)
+    ])
 
 pub returns : goal.returns
 returns c =
@@ -28,10 +27,14 @@ returns c =
     let s = c.size.ensures.size in
     let end = c.rows_end-end.result in
     let size = c.size.result in
-    let k : end + size - end ≡ row_size (row_of c.args.row.now) = omega arith in
-    let l : length c.put_number.new.cells ≡ 2 = search (rules, places) in
+    let k : end + size - end ≡ row_size c.args.row.now = omega arith in
+    let t = c.take_bytes.ensures in
+    let written = taken_whole _ _ _ _ t.taken t.cells (search (rules, places)) in
+    let ok = t.taken ∙ eq-eqb _ _ (search (rules, places)) in
+    let n : end + size - 2 ≡ end + (end + size - end) - 2 = omega arith in
     record {
-      fits = has_room c.args.page.now (row_of c.args.row.now) (omega arith) (omega arith) (omega arith);
-      page = row_put c.args.page.now (row_of c.args.row.now) end (end + size - end) c.put_bytes.new.cells c.put_number.new.cells e k c.put_bytes.ensures
-          (width_is c.put_number.new.cells _ _ 2 c.put_number.ensures l ∙ ap (λ m. in_bytes 2 m []) (omega arith)) (omega arith) (omega arith);
+      fits = ok ∙ has_room c.args.page.now c.args.row.now (omega arith) (omega arith) (omega arith);
+      page = row_put c.args.page.now c.args.row.now end (end + size - end) c.put_bytes.new.cells c.take_bytes.new.cells e k c.put_bytes.ensures
+          (written ∙ c.to_be_bytes.ensures ∙ sym (in_bytes_high 2 (end + size - 2)) ∙ ap (λ m. in_bytes 2 m []) n) (omega arith) (omega arith)
+          ∙ ap (λ b. pick b (with_row c.args.page.now c.args.row.now) c.args.page.now) (sym ok);
     }

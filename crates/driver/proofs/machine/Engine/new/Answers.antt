@@ -1,9 +1,6 @@
-use Rattle.std.proofs.Common.{arith, rules}
-use Rattle.std.proofs.lemmas.Result.{IfOk-from_err}
+use Rattle.std.proofs.Common.{arith}
 use Rattle.driver.proofs.machine.Engine.new.Goals as goal
 
-pub returns-in_err-lent : goal.returns-in_err-lent
-returns-in_err-lent g c = IfOk-from_err c.from_residual-in_err-lent.result _ (search rules)
-
+-- found alone, too, but a row that is too short is refused at once by this
 pub invariant_of-result : goal.invariant_of-result
 invariant_of-result g c = record { sized = (c.in_ok-memory.ensures.len, omega (arith, c.in_ok-lent.ensures.len)) }

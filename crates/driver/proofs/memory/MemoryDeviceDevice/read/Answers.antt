@@ -1,17 +1,30 @@
-use Rattle.std.proofs.Common.{◌<◌, length, sym, refl, ap, ◌∙◌, arith}
+use Rattle.std.proofs.Common.{◌<◌, length, get_or, sym, ap, ◌∙◌, arith}
+use Rattle.std.specs.Option.{ok_or}
+use Rattle.std.specs.Result.{result_err}
+use Rattle.std.proofs.lemmas.Option.{MatchOption-at_some, MatchOption-at_none, same_Some}
+use Rattle.std.proofs.lemmas.Result.{err_from_is_err_and}
 use Rattle.pages.specs.Device.{page_at}
+use Rattle.driver.specs.declared.faults.Fault.TheVariants.{NoSuchPage}
 use Rattle.driver.proofs.Rows.{page_at_getD, length_all_written}
 use Rattle.driver.proofs.memory.MemoryDeviceDevice.read.Goals as goal
 
 pub returns : goal.returns
 returns c d e =
-    let pages = c.args.self.now.pages in
-    let there : c.args.page < length pages.items = omega (arith, pages.ok.0) in (
+    let pages = c.args.self.now.pages.items in
+    let page = c.args.page in
+    let found = c.in_ok-found.found.now in
+    let all = c.deref.ensures.value in
+    let lookup = MatchOption-at_some _ _ _ c.in_ok-found.ensures.ok_part c.get.ensures.lookup.3 in
+    let there : page < length pages = omega (arith, ap length all, lookup.0) in (
       e,
-      omega (arith, length_all_written d.pages d.queue, ap length e),
-      c.index.ensures ∙ sym (page_at_getD pages.items c.args.page c.index.result.now there) ∙ ap (λ ps. page_at ps c.args.page) (sym e),
+      omega (arith, length_all_written d.pages d.queue, ap length e, there),
+      lookup.1 found ∙ ap (λ ps. get_or ps page found) all ∙ sym (page_at_getD pages page found there) ∙ ap (λ ps. page_at ps page) (sym e),
     )
 
-pub returns-then-page-len : goal.returns-then-page-len
-returns-then-page-len c d e =
-    (e, omega (arith, length_all_written d.pages d.queue, ap length e, c.args.self.now.pages.ok.0), refl)
+pub returns-in_err-found : goal.returns-in_err-found
+returns-in_err-found c d e =
+    let p = err_from_is_err_and c.from_residual.result c.from_residual.ensures.1 in
+    let no = c.in_err-found.ensures in
+    let told = same_Some _ _ (ap result_err (no.value ∙ ap (λ o. ok_or o (NoSuchPage c.args.page)) no.ok_part)) in
+    let none = MatchOption-at_none _ _ no.ok_part c.get.ensures.lookup.3 in
+    rw p.1 (e, omega (arith, length_all_written d.pages d.queue, ap length e, ap length c.deref.ensures.value, none), p.2 ∙ told)

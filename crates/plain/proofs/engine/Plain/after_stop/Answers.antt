@@ -1,13 +1,11 @@
-use Rattle.std.proofs.Common.{◌++◌, ap, ◌∙◌}
+use Rattle.std.proofs.Common.{◌++◌, ap}
+use Rattle.plain.proofs.Copies.{same_from_clones}
 use Rattle.reports.specs.Plain.{after_stop}
-use Rattle.plain.specs.View.{a_plain, docs_of, plain_of, changed}
-use Rattle.plain.proofs.Steps.{those_all}
-use Rattle.plain.specs.declared.lists.Which.TheVariants.{All}
+use Rattle.plain.specs.View.{a_plain}
 use Rattle.plain.proofs.engine.Plain.after_stop.Goals as goal
 
 pub returns : goal.returns
 unfolding after_stop
 returns c =
-    let w = plain_of c.args.self.now in
-    let coming = c.in_ok-coming.ensures ∙ those_all (docs_of c.as_slice.result.now) ∙ ap docs_of c.as_slice.ensures.value in
-    c.in_ok-change.ensures ∙ ap (changed w All) coming ∙ ap (λ l. a_plain w.asked w.asked (w.gone ++ l)) (those_all w.coming)
+    let copied = same_from_clones _ _ c.in_ok-coming.ensures.cases.0 in
+    rw (← c.self.view_is) (rw c.in_ok-append.ensures.items (ap (λ ds. a_plain c.self.inside.asked.items ds (c.self.inside.gone.items ++ c.self.inside.coming.items)) copied))

@@ -1,19 +1,23 @@
-use Rattle.std.proofs.Common.{not, refl, ap, ◌∙◌}
+use Rattle.std.proofs.Common.{◌≡◌, true, false, sym, refl, ap, ◌∙◌, arith}
 use Rattle.pages.specs.Lists.{none_of, flat}
-use Rattle.reports.specs.Plain.{named, shown_doc}
-use Rattle.plain.specs.View.{docs_of, plain_of}
-use Rattle.plain.proofs.Answered.{fetch_answered, fetch_refused}
+use Rattle.reports.specs.Plain.{turn, named, shown_doc}
+use Rattle.plain.proofs.Empty.{none_by_length, none_mapped, none_shown}
 use Rattle.plain.proofs.engine.Plain.fetch.Goals as goal
 
 pub returns : goal.returns
+unfolding turn
 returns c =
+    let w = c.args.self.now in
     let n = c.args.name in
-    let has = c.if-not-has.ensures ∙ ap (λ l. not (none_of (named n (docs_of l)))) c.as_slice.ensures.value in
-    let rows = c.in_ok-rows.ensures ∙ ap (λ l. flat shown_doc (named n (docs_of l))) c.as_slice-2.ensures.value in
-    fetch_answered (plain_of c.args.self.now) _ n has refl rows
+    let rows = c.in_ok-rows.ensures ∙ ap (λ ds. flat shown_doc (named n ds)) (c.deref.ensures.value ∙ ap (λ p. p.asked) c.self.view_is) in
+    let some : none_of (named n w.asked) ≡ false = none_shown (named n w.asked) ∙ ap none_of (sym rows) ∙ none_mapped _ _ ∙ none_by_length _ _ (omega (arith, c.in_ok-rows.rows.ok.0)) ∙ sym c.if-is_empty.ensures in
+    rw some record { reply = refl; shows = rows; next = refl }
 
-pub returns-then-not-has : goal.returns-then-not-has
-returns-then-not-has c =
+pub returns-then-is_empty : goal.returns-then-is_empty
+unfolding turn
+returns-then-is_empty c =
+    let w = c.args.self.now in
     let n = c.args.name in
-    let none = c.if-not-has.ensures ∙ ap (λ l. not (none_of (named n (docs_of l)))) c.as_slice.ensures.value in
-    fetch_refused (plain_of c.args.self.now) c.without_rows.result n none c.without_rows.ensures.0 c.without_rows.ensures.1
+    let rows = c.in_ok-rows.ensures ∙ ap (λ ds. flat shown_doc (named n ds)) (c.deref.ensures.value ∙ ap (λ p. p.asked) c.self.view_is) in
+    let none : none_of (named n w.asked) ≡ true = none_shown (named n w.asked) ∙ ap none_of (sym rows) ∙ none_mapped _ _ ∙ none_by_length _ _ (omega (arith, c.in_ok-rows.rows.ok.0)) ∙ sym c.if-is_empty.ensures in
+    rw none record { reply = refl; shows = refl; next = refl }

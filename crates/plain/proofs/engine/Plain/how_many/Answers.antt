@@ -1,18 +1,19 @@
-use Rattle.std.proofs.Common.{[], ◌∷◌, ◌++◌, map, length, vec_items, refl, ap, ◌∙◌}
+use Rattle.std.proofs.Common.{[], ◌∷◌, map, length, vec_items, sym, refl, ap, ◌∙◌}
 use Rattle.pages.specs.Bytes.{eight}
 use Rattle.pages.specs.Lists.{those}
+use Rattle.pages.proofs.Places.{eight_is}
 use Rattle.questions.specs.Query.{matches}
 use Rattle.matching.specs.View.{query_of}
-use Rattle.plain.specs.View.{docs_of, plain_of}
-use Rattle.plain.proofs.Answered.{count_answered}
+use Rattle.reports.specs.Plain.{turn}
 use Rattle.plain.proofs.engine.Plain.how_many.Goals as goal
 
 pub returns : goal.returns
+unfolding turn
 returns c =
-    let q = query_of c.args.query.now in
-    let n = c.count.ensures ∙ ap (λ l. length (those (λ d. matches d q) (docs_of l))) c.as_slice.ensures.value in
-    let row = c.number_row-row.ensures ∙ ap eight n in
-    let rows =
-    c.in_ok-add_row.ensures ∙ ap (λ l. map vec_items l ++ c.number_row-row.result ∷ []) c.new-rows.ensures.items ∙ ap (λ r. r ∷ []) row
-    in
-    count_answered (plain_of c.args.self.now) _ q refl rows
+    let n = c.count.ensures ∙ ap (λ ds. length (those (λ d. matches d (query_of c.args.query.now)) ds)) (c.deref.ensures.value ∙ ap (λ w. w.asked) c.self.view_is) in
+    let row = c.in_ok-from_slice.ensures.items ∙ c.to_be_bytes-row.ensures ∙ sym (eight_is c.count.result) ∙ ap eight n in
+    record {
+      reply = refl;
+      shows = ap (map vec_items) c.in_ok-vec.ensures.items ∙ ap (λ r. r ∷ []) row;
+      next = refl;
+    }

@@ -1,22 +1,38 @@
-use Rattle.std.proofs.Common.{not, ap, ◌∙◌}
+use Rattle.std.proofs.Common.{◌≡◌, not, true, false, ◌==◌, map, vec_items, refl, ap, ◌∙◌, rules, tests}
+use Rattle.std.specs.List.{list_any}
+use Rattle.std.proofs.lemmas.Iterator.{YieldsList-from_slice}
+use Rattle.std.proofs.lemmas.Iterator.Search.{any_from_yields_List}
 use Rattle.pages.specs.Lists.{none_of}
-use Rattle.reports.specs.Plain.{named, others}
-use Rattle.plain.specs.View.{docs_of, plain_of, changed}
-use Rattle.plain.proofs.Answered.{remove_answered, remove_refused}
-use Rattle.plain.specs.declared.lists.Which.TheVariants.{Named}
+use Rattle.documents.specs.Document.{Doc}
+use Rattle.reports.specs.Plain.{turn, named, others}
+use Rattle.plain.specs.View.{changed}
+use Rattle.plain.proofs.Empty.{none_unless_any}
 use Rattle.plain.proofs.engine.Plain.remove.Goals as goal
 
-pub returns : goal.returns
-returns c =
-    let w = plain_of c.args.self.now in
-    let n = c.args.name in
-    let has = c.if-not-has.ensures ∙ ap (λ l. not (none_of (named n (docs_of l)))) c.as_slice.ensures.value in
-    let kept = c.in_ok-coming.ensures ∙ ap (λ l. others n (docs_of l)) c.as_slice-2.ensures.value in
-    remove_answered w _ c.without_rows-2.result n has c.without_rows-2.ensures.0 c.without_rows-2.ensures.1
-    (c.in_ok-change.ensures ∙ ap (changed w (Named n)) kept)
+pub returns-then-not-any : goal.returns-then-not-any
+unfolding turn
+returns-then-not-any c =
+    let w = c.args.self.now in
+    let p = λ (d : Doc). d.name == c.args.name in
+    let coming = c.iter.ensures.rest ∙ c.deref.ensures.value ∙ ap (λ v. v.coming) c.self.view_is in
+    let found : c.any.result ≡ list_any p w.coming = any_from_yields_List p _ _ _ c.any.ensures.ran (YieldsList-from_slice w.coming coming) (λ x b q k. search (rules, tests)) in
+    let none : none_of (named c.args.name w.coming) ≡ true = none_unless_any p w.coming _ found ∙ ap not c.if-not-any.true in
+    rw none record { reply = refl; shows = refl; next = refl }
 
-pub returns-then-not-has : goal.returns-then-not-has
-returns-then-not-has c =
+pub returns : goal.returns
+unfolding turn
+returns c =
+    let w = c.args.self.now in
     let n = c.args.name in
-    let none = c.if-not-has.ensures ∙ ap (λ l. not (none_of (named n (docs_of l)))) c.as_slice.ensures.value in
-    remove_refused (plain_of c.args.self.now) c.without_rows.result n none c.without_rows.ensures.0 c.without_rows.ensures.1
+    let p = λ (d : Doc). d.name == n in
+    let coming = c.iter.ensures.rest ∙ c.deref.ensures.value ∙ ap (λ v. v.coming) c.self.view_is in
+    let found : c.any.result ≡ list_any p w.coming = any_from_yields_List p _ _ _ c.any.ensures.ran (YieldsList-from_slice w.coming coming) (λ x b q k. search (rules, tests)) in
+    let some : none_of (named n w.coming) ≡ false = none_unless_any p w.coming _ found ∙ ap not c.if-not-any.false in
+    let all = c.deref-2.ensures.value ∙ ap (λ v. v.coming) c.self.view_is in
+    let leave = c.in_ok-leaving.ensures.0 ∙ ap (named n) all in
+    let stay = c.in_ok-leaving.ensures.1 ∙ ap (others n) all in
+    rw some record {
+      reply = refl;
+      shows = ap (map vec_items) c.new.ensures.items;
+      next = c.in_ok-change.ensures ∙ ap (λ l. changed w l c.in_ok-leaving.coming.items) leave ∙ ap (changed w (named n w.coming)) stay;
+    }

@@ -1,9 +1,14 @@
-use Rattle.std.proofs.Common.{vec_items, ap}
-use Rattle.plain.specs.View.{docs_of, plain_of}
-use Rattle.plain.proofs.Answered.{sweep_answered}
+use Rattle.std.proofs.Common.{[], ap, ◌∙◌}
+use Rattle.reports.specs.Plain.{turn}
+use Rattle.plain.specs.View.{a_plain}
 use Rattle.plain.proofs.engine.Plain.sweep.Goals as goal
 
 pub returns : goal.returns
+unfolding turn
 returns c =
-    sweep_answered (plain_of c.args.self.now) (plain_of c.note.new.self) (docs_of (vec_items c.clear.new.self)) c.in_ok-answer.answer
-    c.in_ok-answer.ensures (ap docs_of c.clear.ensures.items)
+    let noted = c.self.view_is ∙ c.in_ok-answer.ensures.next in
+    record {
+      reply = c.in_ok-answer.ensures.reply;
+      shows = c.in_ok-answer.ensures.shows;
+      next = ap (a_plain c.self.inside.asked.items c.self.inside.coming.items) c.clear.ensures.items ∙ ap (λ w. a_plain w.asked w.coming []) noted;
+    }

@@ -1,14 +1,10 @@
-use Rattle.std.proofs.Common.{◌≤◌, [], ◌∷◌, length, ap, ◌∙◌, arith}
-use Rattle.pages.specs.Places.{written}
-use Rattle.pages.proofs.Places.{written_then}
-use Rattle.reports.specs.Registers.{phase_number, ledger_numbers}
+use Rattle.std.proofs.Common.{length, sym, refl, ap, ◌∙◌, arith}
+use Rattle.std.proofs.lemmas.List.{length-take-le}
+use Rattle.pages.proofs.Places.{written_part}
 use Rattle.reports.proofs.registers.Registers.store.Goals as goal
 
+pub copy_from_slice-requires : goal.copy_from_slice-requires
+copy_from_slice-requires c = length-take-le 44 c.args.memory.now (omega arith) ∙ sym (ap length c.from.ensures)
+
 pub returns : goal.returns
-returns c =
-    let r = c.args.self in
-    let m = c.args.memory.now in
-    let l : 0 ≤ length m = omega arith in
-    let one = c.put.ensures ∙ ap (λ n. written m 0 (n ∷ [])) c.number.ensures in
-    let two = written_then m 0 1 (phase_number r.phase ∷ []) (r.reply ∷ []) l (omega arith) one c.put-2.ensures in
-    written_then m 0 2 (phase_number r.phase ∷ r.reply ∷ []) (ledger_numbers r.ledger) l (omega arith) two c.put_ledger.ensures
+returns c = written_part c.args.memory.now 0 44 (c.copy_from_slice.ensures.after ∙ c.from.ensures) refl
