@@ -26,7 +26,10 @@ def main():
         print(__doc__, file=sys.stderr)
         raise SystemExit(2)
     to = sys.argv[1]
-    packed = subprocess.run(["git", "-C", TOP, "archive", WRITTEN_OVER, "crates"], capture_output=True, check=True).stdout
+    try:
+        packed = subprocess.run(["git", "-C", TOP, "archive", WRITTEN_OVER, "crates"], capture_output=True, check=True).stdout
+    except (OSError, subprocess.CalledProcessError):
+        raise SystemExit(f"commit {WRITTEN_OVER}, from which the crates are taken, is not here: a clone with the whole history has it") from None
     with tarfile.open(fileobj=io.BytesIO(packed)) as crates:
         crates.extractall(to)
     with open(os.path.join(KEPT, "gone.txt"), encoding="utf-8") as f:
