@@ -3,7 +3,7 @@
 
 #[cfg(test)]
 mod tests {
-    use reports::{Request, Verb, read_command};
+    use reports::{Request, UnknownVerb, Verb, read_command};
     use std::alloc::{AllocError, Global};
     use std::iter;
     use std::test::Fail;
@@ -309,5 +309,16 @@ mod tests {
         assert_eq!(rt; read(heap, &[Byte(0)])?, None);
         assert_eq!(rt; read(heap, &[Byte(9)])?, None);
         Ok(())
+    }
+
+    #[test]
+    fn verbs_by_their_bytes(rt: HostRuntime) {
+        assert_eq!(rt; Verb::try_from(1), Ok(Verb::Put));
+        assert_eq!(rt; Verb::try_from(4), Ok(Verb::Ask));
+        assert_eq!(rt; Verb::try_from(8), Ok(Verb::Sweep));
+        assert_eq!(rt; Verb::try_from(0), Err(UnknownVerb(0)));
+        assert_eq!(rt; Verb::try_from(9), Err(UnknownVerb(9)));
+        assert_eq!(rt; u8::from(Verb::Put), 1);
+        assert_eq!(rt; u8::from(Verb::Fetch), 6);
     }
 }

@@ -59,19 +59,3 @@ impl fmt::Display for UnknownVerb {
 }
 
 impl Error for UnknownVerb {}
-
-#[cfg(test)]
-mod tests {
-    use super::*;
-
-    #[test]
-    fn verbs_by_their_bytes(rt: HostRuntime) {
-        assert_eq!(rt; Verb::try_from(1), Ok(Verb::Put));
-        assert_eq!(rt; Verb::try_from(4), Ok(Verb::Ask));
-        assert_eq!(rt; Verb::try_from(8), Ok(Verb::Sweep));
-        assert_eq!(rt; Verb::try_from(0), Err(UnknownVerb(0)));
-        assert_eq!(rt; Verb::try_from(9), Err(UnknownVerb(9)));
-        assert_eq!(rt; u8::from(Verb::Put), 1);
-        assert_eq!(rt; u8::from(Verb::Fetch), 6);
-    }
-}
