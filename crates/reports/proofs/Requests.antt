@@ -1,16 +1,16 @@
 -- From the parts that code reads of a command to what it hands on.
-use Rattle.std.proofs.Common.{◌≡◌, ℕ, ◌<◌, ◌⊎◌, Bool, true, false, MatchOption, Bor, List, [], ◌∷◌, Some, None, Option, Ok, Err, Result, sym, refl, ap, ◌∙◌, subst, inl, inr, append-nil, arith}
+use Rattle.std.proofs.Common.{◌≡◌, ℕ, ◌<◌, ◌⊎◌, Bool, true, false, MatchOption, Bor, List, [], ◌∷◌, length, Some, None, Option, Ok, Err, Result, sym, refl, ap, ◌∙◌, subst, inl, inr, append-nil, arith}
 use Rattle.std.specs.Bool.{then_some}
 use Rattle.std.specs.Result.{result_ok}
 use Rattle.std.proofs.lemmas.Bool.{ne_eqb}
-use Rattle.pages.specs.Lists.{pick}
+use Rattle.pages.specs.Lists.{pick, or, none_of}
 use Rattle.pages.specs.Bytes.{eight, all_bytes}
 use Rattle.questions.specs.Query.{Query}
-use Rattle.questions.specs.Spelling.{query_spelled}
+use Rattle.questions.specs.Spelling.{query_spelled, a_word}
 use Rattle.questions.specs.Reading.{Read, nothing, got, then, only, read_byte, read_bytes, read_within, read_query, Asked}
-use Rattle.questions.proofs.Reading.{every_append, sound_query, sound_within, then_none, then_on, passed, failed}
+use Rattle.questions.proofs.Reading.{Sound, every_append, sound_query, sound_within, then_none, passed, failed}
 use Rattle.reports.specs.Command.{Command, ask, how_many}
-use Rattle.reports.specs.Reading.{no_command, a_command, last, is_whole, all_of_it, read_kind, read_command}
+use Rattle.reports.specs.Reading.{Reading, no_command, a_command, last, is_whole, all_of_it, read_kind, read_command}
 use Rattle.reports.specs.Request.{Handed, Hands, Reads, TextRead}
 use Rattle.reports.specs.declared.reader.Request.{Request}
 use Rattle.reports.specs.declared.reader.Request.TheVariants.{Ask, Count}
@@ -19,23 +19,45 @@ use Rattle.reports.specs.declared.verb.UnknownVerb.{UnknownVerb}
 use Rattle.reports.specs.Verbs.{verb_number, VerbOf}
 use Rattle.reports.proofs.Reading.{read_said, said_read}
 
--- WHAT IS HANDED ON of a command whose parts are read in turn: nothing where a part is missing, and after a part that is there what the others hand on
-pub none_hands : {A : Type 0} {r : Read A} {o : Option Request} (f : A → List ℕ → Read Command) → r ≡ nothing → o ≡ None → Hands (all_of_it (then r f)) o
-none_hands f h e = rw e (ap all_of_it (then_none f h))
+-- a command with nothing, or something, after it
+pub all_empty : (c : Command) (rest : List ℕ) → length rest ≡ 0 → all_of_it (got c rest) ≡ a_command c
+all_empty c [] h = refl
+all_empty c (b ∷ rest) h = absurd (omega arith)
 
-pub on_hands : {A : Type 0} {r : Read A} {a : A} {rest : List ℕ} (f : A → List ℕ → Read Command) (o : Option Request) → r ≡ got a rest → Hands (all_of_it (f a rest)) o → Hands (all_of_it (then r f)) o
-on_hands f o h k = subst (λ (x : Read Command). Hands (all_of_it x) o) (sym (then_on f h)) k
+pub all_more : (c : Command) (rest : List ℕ) → 0 < length rest → all_of_it (got c rest) ≡ no_command
+all_more c [] h = absurd (omega arith)
+all_more c (b ∷ rest) h = refl
+
+pub all_none : {A : Type 0} (r : Read A) (f : A → List ℕ → Read Command) → r ≡ nothing → all_of_it (then r f) ≡ no_command
+all_none r f h = ap (λ x. all_of_it (then x f)) h
+
+pub all_on : {A : Type 0} (r : Read A) (f : A → List ℕ → Read Command) (a : A) (rest : List ℕ) → r ≡ got a rest → all_of_it (then r f) ≡ all_of_it (f a rest)
+all_on r f a rest h = ap (λ x. all_of_it (then x f)) h
 
 -- a last part
+pub last_some : {A : Type 0} (r : Read A) (f : A → Command) (a : A) → last r ≡ got a [] → all_of_it (then r (λ x rest. got (f x) rest)) ≡ a_command (f a)
+last_some nothing f a h = let z : ◌≡◌ {A = ℕ} 0 1 = cc in absurd (omega arith)
+last_some (got b []) f a h = let e : b ≡ a = cc in ap (λ x. a_command (f x)) e
+last_some (got b (x ∷ xs)) f a h = let z : ◌≡◌ {A = ℕ} 0 1 = cc in absurd (omega arith)
+
+pub last_none : {A : Type 0} (r : Read A) (f : A → Command) → last r ≡ nothing → all_of_it (then r (λ x rest. got (f x) rest)) ≡ no_command
+last_none nothing f h = refl
+last_none (got b []) f h = let z : ◌≡◌ {A = ℕ} 0 1 = cc in absurd (omega arith)
+last_none (got b (x ∷ xs)) f h = refl
+
+-- WHAT IS HANDED ON of a command whose parts are read in turn: nothing where a part is missing, and after a part that is there what the others hand on
+pub none_hands : {A : Type 0} {r : Read A} {o : Option Request} (f : A → List ℕ → Read Command) → r ≡ nothing → o ≡ None → Hands (all_of_it (then r f)) o
+none_hands {A} {r} f h e = rw e (all_none r f h)
+
+pub on_hands : {A : Type 0} {r : Read A} {a : A} {rest : List ℕ} (f : A → List ℕ → Read Command) (o : Option Request) → r ≡ got a rest → Hands (all_of_it (f a rest)) o → Hands (all_of_it (then r f)) o
+on_hands {A} {r} {a} {rest} f o h k = subst (λ (x : Reading). Hands x o) (sym (all_on r f a rest h)) k
+
+-- what a last part hands on
 pub last_hands : {A : Type 0} (r : Read A) (f : A → Command) (a : A) (q : Request) → last r ≡ got a [] → Handed (f a) q → Hands (all_of_it (then r (λ x rest. got (f x) rest))) (Some q)
-last_hands nothing f a q h k = cc
-last_hands (got b []) f a q h k = let e : b ≡ a = cc in (f a, ap (λ x. a_command (f x)) e, k)
-last_hands (got b (x ∷ xs)) f a q h k = cc
+last_hands r f a q h k = (f a, last_some r f a h, k)
 
 pub no_last_hands : {A : Type 0} (r : Read A) (f : A → Command) {o : Option Request} → last r ≡ nothing → o ≡ None → Hands (all_of_it (then r (λ x rest. got (f x) rest))) o
-no_last_hands nothing f h e = rw e refl
-no_last_hands (got b []) f h e = cc
-no_last_hands (got b (x ∷ xs)) f h e = rw e refl
+no_last_hands r f h e = rw e (last_none r f h)
 
 pub whole_some : {A : Type 0} (r : Read A) → is_whole r ≡ true → (a : A) × (r ≡ got a [])
 whole_some nothing h = let z : ◌≡◌ {A = ℕ} 0 1 = cc in absurd (omega arith)
@@ -88,6 +110,10 @@ verb_none (Ok v) h e = cc
 verb_none (Err e₁) h e = h.1
 
 -- the whole command
+pub command_no_bytes : (bs : List ℕ) → all_bytes bs ≡ false → read_command bs ≡ no_command
+unfolding read_command
+command_no_bytes bs h = ap (λ t. pick t (all_of_it (then (read_byte bs) read_kind)) no_command) h
+
 pub command_empty : (bs : List ℕ) → bs ≡ [] → read_command bs ≡ no_command
 unfolding read_command
 command_empty bs e = ap read_command e
@@ -100,9 +126,23 @@ pub hands_reads : (bs : List ℕ) (o : Option Request) → Hands (read_command b
 hands_reads bs None h = (h, λ c s. let r = read_said bs c s in cc)
 hands_reads bs (Some q) h = (h.0, said_read bs h.0 h.1, h.1, h.2)
 
--- what comes after a number is bytes, too
-pub bytes_after : (bs : List ℕ) (n : ℕ) (rest : List ℕ) → all_bytes bs ≡ true → read_within 1 1000 bs ≡ got n rest → all_bytes rest ≡ true
-bytes_after bs n rest ok h = (every_append _ (eight n) rest (ap all_bytes (sound_within 1 1000 bs n rest ok h).0 ∙ ok)).1
+-- what comes after a part is bytes, too
+pub bytes_after : {A : Type 0} (spell : A → List ℕ) (Good : A → Type 0) (read : List ℕ → Read A) → Sound spell Good read →
+    (bs : List ℕ) (a : A) (rest : List ℕ) → all_bytes bs ≡ true → read bs ≡ got a rest → all_bytes rest ≡ true
+bytes_after spell Good read sound bs a rest ok h = (every_append _ (spell a) rest (ap all_bytes (sound bs a rest ok h).0 ∙ ok)).1
+
+-- after a number from 1 to 1,000
+pub bytes_after_limit : (bs : List ℕ) (n : ℕ) (rest : List ℕ) → all_bytes bs ≡ true → read_within 1 1000 bs ≡ got n rest → all_bytes rest ≡ true
+bytes_after_limit bs n rest ok h = bytes_after eight _ (read_within 1 1000) (sound_within 1 1000) bs n rest ok h
+
+-- how words begin: with nothing, or like a word
+pub beginning_empty : (p : List ℕ) → length p ≡ 0 → or (none_of p) (a_word p) ≡ true
+beginning_empty [] h = refl
+beginning_empty (b ∷ p) h = absurd (omega arith)
+
+pub beginning_word : (p : List ℕ) → (length p ≡ 0 → ⊥) → or (none_of p) (a_word p) ≡ a_word p
+beginning_word [] n = absurd (n refl)
+beginning_word (b ∷ p) n = refl
 
 -- a part that was read and passes a test, or none
 pub tested : (bs : List ℕ) (p : List ℕ → Bool) (o r : Option (Bor (List ℕ) × Bor (List ℕ))) (Says : Bor (List ℕ) × Bor (List ℕ) → Bool → Type 0) →
@@ -114,4 +154,4 @@ tested bs p (Some x) r Says says h (true, s, e) = rw e (passed (read_bytes bs) p
 tested bs p (Some x) r Says says h (false, s, e) = rw e (failed (read_bytes bs) p x.0.now x.1.now h (sym (says x false s)))
 
 -- all that is said here of what is handed on
-pub ruleset handing_on = (tested, none_hands, on_hands, last_hands, no_last_hands, count_hands, ask_hands, bytes_after)
+pub ruleset handing_on = (tested, none_hands, on_hands, last_hands, no_last_hands, count_hands, ask_hands, bytes_after_limit)

@@ -95,6 +95,14 @@ kind_not m k bs out l = simp (lt-leb k 3 l, and-false)
 pub fits_so : (m : List ℕ) (k : ℕ) (bs out : List ℕ) → length m ≡ cells → k ≤ 3 → 131072 ≤ length out → step_fits m k bs out ≡ true
 fits_so m k bs out h l o = sym (kind_fits m k bs out l) ∙ told_fits m out h o
 
+pub fits_not : (m : List ℕ) (k : ℕ) (bs out : List ℕ) → (length m ≡ cells → ⊥) ⊎ (((length m ≡ cells) × (3 < k)) ⊎ ((length m ≡ cells) × (k ≤ 3) × (length out < 131072))) → step_fits m k bs out ≡ false
+unfolding step_fits
+fits_not m k bs out (inl h) =
+    let e : eqb (length m) (length own.start) ≡ false = ne_eqb _ _ (λ q. h (q ∙ own_length)) in
+    simp e
+fits_not m k bs out (inr (inl h)) = simp (lt-leb k 3 h.1, and-false)
+fits_not m k bs out (inr (inr h)) = simp (lt-leb 131072 (length out) h.2, and-false)
+
 -- a step at a memory of the engine's own length
 pub step_at : (m : List ℕ) (ev : Event) → length m ≡ cells → own.step m ev ≡ moves store move most_moves (after_event (load m) ev)
 unfolding own own_step
