@@ -89,7 +89,7 @@ impl<D: Device + Drop> Engine<D> {
 
     // An engine that came up on this device.
     pub fn start(heap: Global, device: D) -> Result<Engine<D>, Fault>
-        ensures { IfOk result (λ e. (ran : Ran) × Powered D.Device.stands MOST_ACTS device e.device e.memory.items ran × (ran.end ≡ End.Done)) }
+        ensures { IfOk result (λ e. (ran : Ran) × Powered D.Device.stands (2 ^ 40) device e.device e.memory.items ran × (ran.end ≡ End.Done)) }
     {
         let mut engine = Engine::new(heap, device)?;
         match engine.power_on(MOST_ACTS)?.ended()?.end {
