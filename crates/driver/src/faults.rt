@@ -1,5 +1,5 @@
 // What can go wrong while the engine is driven. None of it is a refusal of the engine's: those are told as such.
-use std::alloc::AllocError;
+use std::alloc::{AllocError, AllocFailed};
 use std::io;
 use thiserror::Error;
 
@@ -24,5 +24,17 @@ pub enum Fault {
     #[error("the engine did not come to an end")]
     Endless,
     #[error("there is no memory left")]
-    NoMemory(#[from(alloc)] AllocError),
+    NoMemory,
+}
+
+impl From<AllocError> for Fault {
+    fn from(_error: AllocError) -> Fault {
+        Fault::NoMemory
+    }
+}
+
+impl<T: Drop> From<AllocFailed<T>> for Fault {
+    fn from(_refused: AllocFailed<T>) -> Fault {
+        Fault::NoMemory
+    }
 }
