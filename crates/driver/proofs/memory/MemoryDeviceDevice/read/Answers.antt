@@ -1,7 +1,8 @@
-use Rattle.std.proofs.Common.{◌<◌, length, get_or, sym, ap, ◌∙◌, arith}
+use Rattle.std.proofs.Common.{◌<◌, length, sym, ap, ◌∙◌, arith}
 use Rattle.std.specs.Option.{ok_or}
 use Rattle.std.specs.Result.{result_err}
-use Rattle.std.proofs.lemmas.Option.{MatchOption-at_some, MatchOption-at_none, same_Some}
+use Rattle.std.proofs.lemmas.Grind.{common_steps}
+use Rattle.std.proofs.lemmas.Option.{MatchOption-at_none, same_Some}
 use Rattle.std.proofs.lemmas.Result.{err_from_is_err_and}
 use Rattle.pages.specs.Device.{page_at}
 use Rattle.driver.specs.declared.faults.Fault.TheVariants.{NoSuchPage}
@@ -13,12 +14,10 @@ returns c d e =
     let pages = c.args.self.now.pages.items in
     let page = c.args.page in
     let found = c.in_ok-found.found.now in
-    let all = c.deref.ensures.value in
-    let lookup = MatchOption-at_some _ _ _ c.in_ok-found.ensures.ok_part c.get.ensures.lookup.3 in
-    let there : page < length pages = omega (arith, ap length all, lookup.0) in (
+    let there : page < length pages = grind (arith, common_steps) in (
       e,
       omega (arith, length_all_written d.pages d.queue, ap length e, there),
-      lookup.1 found ∙ ap (λ ps. get_or ps page found) all ∙ sym (page_at_getD pages page found there) ∙ ap (λ ps. page_at ps page) (sym e),
+      (grind (arith, common_steps)) ∙ sym (page_at_getD pages page found there) ∙ ap (λ ps. page_at ps page) (sym e),
     )
 
 pub returns-in_err-found : goal.returns-in_err-found
