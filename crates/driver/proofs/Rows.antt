@@ -39,6 +39,15 @@ unfolding zeros
 zeros_replicate zero = refl
 zeros_replicate (suc n) = ap (λ l. 0 ∷ l) (zeros_replicate n)
 
+pub blank_none : blank 0 ≡ []
+unfolding blank
+blank_none = refl
+
+pub blank_more : (n : ℕ) → blank n ++ zeros 512 ∷ [] ≡ blank (suc n)
+unfolding blank
+blank_more zero = refl
+blank_more (suc n) = ap (λ l. zeros 512 ∷ l) (blank_more n)
+
 pub blank_replicate : (n : ℕ) → replicate n (replicate 512 0) ≡ blank n
 unfolding blank
 blank_replicate zero = refl

@@ -1,5 +1,5 @@
 -- A run of the engine, act by act. Assumes nothing.
-use Rattle.std.proofs.Common.{◌≡◌, ◌≢◌, ℕ, zero, suc, ◌+◌, ◌<◌, ◌≤◌, Bool, ◌⊎◌, List, [], ◌++◌, length, take, drop, replicate, sym, refl, ap, ◌∙◌, subst, inl, inr, ⊎_elim, arith, take_at}
+use Rattle.std.proofs.Common.{◌≡◌, ◌≢◌, ℕ, zero, suc, ◌+◌, ◌<◌, ◌≤◌, Bool, ◌⊎◌, List, [], ◌∷◌, ◌++◌, length, get_or, take, drop, replicate, sym, refl, ap, ◌∙◌, subst, inl, inr, ⊎_elim, arith, take_at}
 use Rattle.std.proofs.lemmas.List.{length-replicate}
 use Rattle.pages.specs.Lists.{zeros}
 use Rattle.pages.specs.Device.{Page, Device}
@@ -27,6 +27,14 @@ told_so mem lent m out m₁ out₁ n l t ev ev₁ is sm so cells long row wide k
     let b : take l (out₁ ++ drop (length out₁) lent) ≡ out₁ = take_at out₁ _ l (keeps-out ∙ ap length so ∙ sym wide) in
     let fits = told_fits m out (ap length sm ∙ sym long ∙ cells) (omega (arith, ap length so)) in
     rw (a, b, is, ← sm, ← so) (subst (λ (v : Bool). TellSays m ev₁ out v t m₁ out₁) fits h)
+
+-- memory that is all 0
+pub all_zeros : (n : ℕ) (m : List ℕ) → length m ≡ n → ((k : ℕ) → k < n → get_or m k 0 ≡ 0) → m ≡ zeros n
+unfolding zeros
+all_zeros zero [] long h = refl
+all_zeros zero (x ∷ m) long h = absurd (omega arith)
+all_zeros (suc n) [] long h = absurd (omega arith)
+all_zeros (suc n) (x ∷ m) long h = ap (λ y. y ∷ m) (h 0 (omega arith)) ∙ ap (λ l. 0 ∷ l) (all_zeros n m (omega arith) (λ k less. h (suc k) (omega arith)))
 
 -- memory that was filled with 0 where it stands
 pub cleared : (mem m m₁ : List ℕ) (n : ℕ) → n ≡ 262144 → n ≡ length mem → m ≡ mem → m₁ ≡ replicate (length m) 0 → take n (m₁ ++ drop (length m₁) mem) ≡ zeros 262144
