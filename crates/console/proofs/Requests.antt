@@ -20,17 +20,18 @@ unfolding size
 size_all w [] = refl
 size_all w (v ∷ ws) = omega (arith, size_all v ws)
 
-field_fits : (f : Field) → ltb (field_number f) 3 ≡ true
+-- a byte that stands for a field is below 3
+pub field_fits : (f : Field) → ltb (field_number f) 3 ≡ true
 field_fits Either = refl
 field_fits Title = refl
 field_fits Body = refl
 
 fits_all : (w : Word) (ws : List Word) → every good_word (w ∷ ws) ≡ true → query_fits (all_of (w ∷ ws)) ≡ true
 unfolding query_fits
-fits_all w [] all = rw (field_fits w.field) (and_true (good_word w) true all).0
+fits_all w [] all = (and_true (good_word w) true all).0
 fits_all w (v ∷ ws) all =
     let parts = and_true (good_word w) (every good_word (v ∷ ws)) all in
-    rw (field_fits w.field, parts.0) (fits_all v ws parts.1)
+    rw parts.0 (fits_all v ws parts.1)
 
 pub asked_fits : (k : ℕ) (ws : List Word) → 1 ≤ k → k ≤ 1000 → GoodWords ws → fits (ask k (all_of ws)) ≡ true
 unfolding fits

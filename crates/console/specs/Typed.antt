@@ -1,10 +1,9 @@
 -- What is typed, as commands. Assumes nothing: these are definitions.
-use Rattle.std.specs.Prelude.{◌≡◌, ℕ, ◌≤◌, Bool, true, List, [], ◌∷◌, length, take, Some, None, vec_items, Option, Vec}
+use Rattle.std.specs.Prelude.{◌≡◌, ℕ, ◌≤◌, Bool, true, ◌&&◌, List, [], ◌∷◌, length, take, Some, None, vec_items, Option, Vec, nat_lt}
 use Rattle.std.specs.declared.alloc.Global.{Global}
 use Rattle.pages.specs.Lists.{every, each}
 use Rattle.words.specs.Words.{small}
 use Rattle.questions.specs.Query.{Query, word, both}
-use Rattle.questions.specs.Fields.{field_number}
 use Rattle.questions.specs.Spelling.{a_word}
 use Rattle.reports.specs.Command.{Command, put, remove, note, ask, how_many, fetch, fits, spelled}
 use Rattle.console.specs.declared.typed.Word.{Word}
@@ -13,7 +12,7 @@ use Rattle.console.specs.declared.typed.Request.TheVariants.{Put, Remove, Note, 
 
 -- a typed word: where it is looked for, and its letters
 abbrev pub query_of : Word → Query
-query_of w = word (field_number w.field) (vec_items w.letters)
+query_of w = word w.field (vec_items w.letters)
 
 -- all of these words; of no word there is no question
 abbrev pub all_of : List Word → Query
@@ -21,9 +20,9 @@ all_of [] = word 0 []
 all_of (w ∷ []) = query_of w
 all_of (w ∷ v ∷ ws) = both (query_of w) (all_of (v ∷ ws))
 
--- a word that the engine takes, wherever it is looked for
+-- a word that the engine takes
 abbrev pub good_word : Word → Bool
-good_word w = a_word (vec_items w.letters)
+good_word w = nat_lt w.field 3 && a_word (vec_items w.letters)
 
 -- the letters of a word as the engine has them: small, and 64 at most
 abbrev pub letters_of : List ℕ → List ℕ

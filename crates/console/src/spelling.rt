@@ -113,6 +113,6 @@ fn add_words(bytes: &mut Vec<u8>, words: &[Word]) -> Result<(), AllocError>
 fn add_word(bytes: &mut Vec<u8>, word: &Word) -> Result<(), AllocError>
     ensures { OnOk result (bytes.new.items ≡ bytes.old.items ++ query_spelled (query_of word.now)) }
 {
-    bytes.extend_from_slice(&[u8::from(Kind::Word), u8::from(word.field)])?;
+    bytes.extend_from_slice(&[u8::from(Kind::Word), word.field])?;
     add_with_length(bytes, word.letters.as_slice())
 }

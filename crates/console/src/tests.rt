@@ -46,6 +46,19 @@ fn commands_as_typed(rt: HostRuntime) -> Result<(), Fail> {
     Ok(())
 }
 
+// No command that is read has such a word, but whoever makes one has it spelled as it is.
+#[test]
+fn any_byte_for_a_field(rt: HostRuntime) -> Result<(), Fail> {
+    let heap = rt.alloc();
+    let word = Word {
+        field: 7,
+        letters: Vec::from_slice(heap, b"x")?,
+    };
+    let ask = [4, 0, 0, 0, 0, 0, 0, 0, 5, 1, 7, 0, 0, 0, 0, 0, 0, 0, 1, 120];
+    assert_eq!(rt; spell_ask(heap, 5, &[word])?.as_slice(), ask.as_slice());
+    Ok(())
+}
+
 #[test]
 fn misread_lines(rt: HostRuntime) {
     let heap = rt.alloc();

@@ -16,10 +16,11 @@ const LONGEST_WORD: usize = 64;
 // So many hits at most.
 const MOST_HITS: u64 = 1000;
 
-// A word and where it is looked for.
+// A word and where it is looked for: 1 in the title, 2 in the body, 0 in both, as `Field` has them. It stays a byte here, so that any can be spelled: a
+// question with one above 2 is refused by the engine alone.
 #[derive(Drop)]
 pub struct Word {
-    pub field: Field,
+    pub field: u8,
     pub letters: Vec<u8>,
 }
 
@@ -190,7 +191,10 @@ fn read_word<'a>(heap: Global, text: &'a str) -> Result<Word, Misread<'a>>
     if !rest.bytes().all(in_word) || !is_word(letters.as_slice()) {
         return Err(Misread::NoWord(text));
     }
-    Ok(Word { field, letters })
+    Ok(Word {
+        field: u8::from(field),
+        letters,
+    })
 }
 
 // Where a word is looked for, and the rest of it.

@@ -1,7 +1,6 @@
-use Rattle.std.proofs.Common.{[], ◌∷◌, ◌++◌, vec_items, ap, ◌∙◌, append_assoc}
+use Rattle.std.proofs.Common.{◌≡◌, [], ◌∷◌, ◌++◌, vec_items, ap, ◌∙◌, append_assoc, rules}
 use Rattle.std.proofs.lemmas.Result.{IfOk-weaker}
 use Rattle.pages.specs.Bytes.{with_length}
-use Rattle.questions.specs.Fields.{field_number}
 use Rattle.questions.specs.Spelling.{query_spelled}
 use Rattle.console.proofs.spelling.add_word.Goals as goal
 
@@ -11,8 +10,8 @@ returns c =
     let old = vec_items c.args.bytes.now in
     let word = c.args.word.now in
     let letters = with_length (vec_items word.letters) in
-    let first = c.in_ok-extend_from_slice.ensures.items ∙ ap (λ k. old ++ k ∷ c.from-2.result ∷ []) c.from.ensures ∙ ap (λ f. old ++ 1 ∷ f ∷ []) c.from-2.ensures in
+    let first : vec_items c.extend_from_slice.new.self ≡ old ++ (1 ∷ word.field ∷ []) = search rules in
     IfOk-weaker c.add_with_length.result _ _
     (λ _ h.
-    h ∙ ap (λ l. vec_items c.extend_from_slice.new.self ++ with_length l) c.as_slice.ensures.value ∙ ap (λ l. l ++ letters) first ∙ append_assoc old (1 ∷ field_number word.field ∷ []) letters)
+    h ∙ ap (λ l. vec_items c.extend_from_slice.new.self ++ with_length l) c.as_slice.ensures.value ∙ ap (λ l. l ++ letters) first ∙ append_assoc old (1 ∷ word.field ∷ []) letters)
     c.add_with_length.ensures
