@@ -3,7 +3,7 @@ ghost use Rattle.std.specs.Prelude.{◌≡◌, ◌<◌, ◌^◌, true, IfOk};
 ghost use Rattle.console.specs.Typed.{good_word, letters_of, GoodWords, Good};
 
 use questions::{Field, is_word};
-use std::alloc::{AllocError, Global};
+use std::alloc::{AllocError, AllocFailed, Global};
 use thiserror::Error;
 use words::{in_word, made_small};
 
@@ -70,7 +70,19 @@ pub enum Misread<'a> {
     #[error("expected a word of letters and digits, not {0:?}")]
     NoWord(&'a str),
     #[error("there is no memory left")]
-    NoMemory(#[from(alloc)] AllocError),
+    NoMemory,
+}
+
+impl From<AllocError> for Misread<'_> {
+    fn from(_error: AllocError) -> Self {
+        Misread::NoMemory
+    }
+}
+
+impl<T: Drop> From<AllocFailed<T>> for Misread<'_> {
+    fn from(_refused: AllocFailed<T>) -> Self {
+        Misread::NoMemory
+    }
 }
 
 // What a line asks for. The engine never says of it that it is no command. That stays a fact of what was read, and is none of the type's: anyone may
