@@ -89,10 +89,15 @@ decoded i (c ∷ d ∷ cs) all even =
     let order : worth c * 16 + worth d ≡ 16 * worth c + worth d = omega arith in
     rw (value_so c i first.0, value_so d (i + 1) second.0, rest, order)
 
+-- of digits, and an even number of them, what is read as the library reads it
+pub read_so : (text : List ℕ) (r : Result (Vec ℕ Global) BadHex) → every is_digit text ≡ true → length text % 2 ≡ 0 → MatchResult r (λ v. decode_of text ≡ Ok (vec_items v)) (λ e. e ≡ NoMemory) → HexRead text r
+read_so text (Ok v) all even read =
+    let whole : Ok (from_hex text) ≡ Ok (vec_items v) = sym (decode_of-even text even ∙ decoded 0 text all even) ∙ read in
+    (all, even, cc)
+read_so text (Err e) all even same = rw same tt
+
 -- of digits, and an even number of them, what the library reads
 pub all_read : (text : List ℕ) (d : Result (Vec ℕ Global) FromHexError) (r : Result (Vec ℕ Global) BadHex) → every is_digit text ≡ true → length text % 2 ≡ 0 → IfOk d (λ v. decode_of text ≡ Ok (vec_items v)) →
     MatchResult d (λ v. r ≡ Ok v) (λ e. r ≡ Err NoMemory) → HexRead text r
-all_read text (Ok v) r all even read same =
-    let whole : Ok (from_hex text) ≡ Ok (vec_items v) = sym (decode_of-even text even ∙ decoded 0 text all even) ∙ read in
-    rw same (all, even, cc)
-all_read text (Err e) r all even read same = rw same tt
+all_read text (Ok v) r all even read same = read_so text r all even (rw same read)
+all_read text (Err e) r all even read same = read_so text r all even (rw same refl)
