@@ -3,16 +3,17 @@ use Rattle.std.specs.Prelude.{◌≡◌, ℕ, zero, suc, ◌+◌, ◌-◌, ◌<�
 use Rattle.pages.specs.Lists.{pick, flat, added_up, same, earlier, zeros}
 use Rattle.pages.specs.Bytes.{in_bytes, all_bytes, from_eight}
 use Rattle.pages.specs.Device.{Page}
-use Rattle.rows.specs.declared.row.Row.{Row as KeptRow}
-use Rattle.rows.specs.declared.page.Stand.{Stand as KeptStand}
 
--- a key, which is the list of its bytes, the document that has it (its first page, counted from the segment's first document page), and the place in it
-abbrev pub Row : Type 0
-Row = KeptRow
+-- a key, the document that has it (its first page, counted from the segment's first document page), and the place in it
+pub record Row : Type 0 where
+  pub key : List ℕ
+  pub doc : ℕ
+  pub place : ℕ
 
 -- what stands at an offset: a row, and where the next one begins
-abbrev pub Stand : Type 0
-Stand = KeptStand
+pub record Stand : Type 0 where
+  pub row : Row
+  pub next : ℕ
 
 -- the order: key by bytes, then document, then place
 unfoldable pub row_less : Row → Row → Bool

@@ -71,6 +71,27 @@ mod tests {
         Ok(())
     }
 
+    fn size(row: Row) -> usize {
+        row.size()
+    }
+
+    fn next(stand: Stand) -> usize {
+        stand.next
+    }
+
+    #[test]
+    fn a_row_is_handed_over_twice(rt: HostRuntime) -> Result<(), Fail> {
+        let row = row(5, b'a', 1)?;
+        assert_eq!(rt; size(row).saturating_add(size(row)), 24);
+        let mut page = [0; 512];
+        put_row(&mut page, &row)?;
+        let Some(stand) = row_at(&page, 2) else {
+            return Err(Fail::new("no row"));
+        };
+        assert_eq!(rt; next(stand).saturating_add(next(stand)), 28);
+        Ok(())
+    }
+
     #[test]
     fn junk_is_read_without_harm(rt: HostRuntime) -> Result<(), Fail> {
         assert_eq!(rt; rows_end(&[u64::MAX; 512]), 0);

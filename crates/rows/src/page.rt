@@ -7,12 +7,24 @@ ghost use Rattle.rows.specs.Rows.{row_size, row_bytes, used, rows_end, row_in, r
 use crate::key::Key;
 use crate::row::Row;
 use pages::{Misfit, bytes_in, give_bytes, take_bytes};
+use std::marker::Model;
 
 // What stands at an offset of a page: a row, and where the next one begins.
 #[derive(Clone, Copy)]
 pub struct Stand {
     pub row: Row,
     pub next: usize,
+}
+
+// What stands there is that of the statements.
+impl Model for Stand {
+    ghost use Rattle.rows.specs.Rows.{Stand};
+
+    ghost Value = { Stand };
+
+    ghost view = { λ stand. record { row = stand.row; next = stand.next } };
+
+    ghost inverse = { λ stand. record { row = stand.row; next = stand.next } };
 }
 
 // Cells as a key; none if one of them holds no byte.

@@ -6,6 +6,7 @@ ghost use Rattle.rows.specs.Orders.{RowsCompared};
 
 use crate::key::Key;
 use std::cmp::Ordering;
+use std::marker::Model;
 
 // `doc` is the document's first page, counted from the segment's first document page, and `place` the place in the
 // document. Rows are ordered by key, then by document, then by place.
@@ -14,6 +15,17 @@ pub struct Row {
     pub key: Key,
     pub doc: u32,
     pub place: u16,
+}
+
+// A row is the row of the statements.
+impl Model for Row {
+    ghost use Rattle.rows.specs.Rows.{Row};
+
+    ghost Value = { Row };
+
+    ghost view = { λ row. record { key = row.key; doc = row.doc; place = row.place } };
+
+    ghost inverse = { λ row. record { key = row.key; doc = row.doc; place = row.place } };
 }
 
 impl Row {
