@@ -154,3 +154,8 @@ module _ (a b : Row) where
 
   pub rows_compared : (r : Ordering) → r ≡ ordering_then (slice_cmp nat_cmp a.key b.key) (ordering_then (nat_cmp a.doc b.doc) (nat_cmp a.place b.place)) → RowsCompared r a b
   rows_compared r e = subst (λ (x : Ordering). RowsCompared x a b) (sym e) (keys_then _ _ refl (docs_then _ _ refl refl))
+
+  -- .. of two rows that are these
+  pub rows_compared_as : (x y : Row) (r : Ordering) → x ≡ a → y ≡ b → r ≡ ordering_then (slice_cmp nat_cmp x.key y.key) (ordering_then (nat_cmp x.doc y.doc) (nat_cmp x.place y.place)) → RowsCompared r a b
+  rows_compared_as x y r p q e =
+      rows_compared r (e ∙ (λ i. ordering_then (slice_cmp nat_cmp (p i).key (q i).key) (ordering_then (nat_cmp (p i).doc (q i).doc) (nat_cmp (p i).place (q i).place))))

@@ -42,7 +42,7 @@ fn key_in(cells: &[u64]) -> Option<Key>
 fn used(page: &[u64]) -> Option<usize>
     ensures { MatchOption result ((nat_le 2 (length page.now) && all_bytes (take 2 page.now)) ≡ false) (λ n. ((nat_le 2 (length page.now) && all_bytes (take 2 page.now)) ≡ true) × (n ≡ used page.now)) }
 {
-    let bytes = bytes_in(page.get(..2)?)?;
+    let bytes: [u8; 2] = bytes_in(page.get(..2)?)?;
     Some(usize::from(u16::from_be_bytes(bytes)))
 }
 

@@ -1,5 +1,6 @@
-use Rattle.rows.proofs.Ordered.{rows_compared}
+use Rattle.std.proofs.Common.{rules}
+use Rattle.rows.proofs.Ordered.{rows_compared_as}
 use Rattle.rows.proofs.row.Row.compare.Goals as goal
 
 pub returns : goal.returns
-returns c = rows_compared _ _ _ c.cmp.ensures
+returns c = search (rows_compared_as, rules)
