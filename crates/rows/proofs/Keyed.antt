@@ -1,9 +1,10 @@
 -- A key before zeros. Assumes nothing.
-use Rattle.std.proofs.Common.{◌≡◌, ℕ, zero, suc, ◌-◌, ◌≤◌, List, ◌∷◌, ◌++◌, length, map, take, replicate, sym, refl, ap, ◌∙◌, subst, arith, length-append}
+use Rattle.std.proofs.Common.{◌≡◌, ℕ, ◌-◌, ◌≤◌, List, ◌++◌, length, map, take, drop, replicate, sym, refl, ap, ◌∙◌, subst, arith, length-append}
 use Rattle.std.specs.Char.{to_ascii_lowercase}
-use Rattle.std.proofs.lemmas.List.{take_at, length-replicate, length-map, map-append}
+use Rattle.std.proofs.lemmas.List.{take_at, drop_at, length-replicate, length-map, length-take-le}
 use Rattle.std.proofs.lemmas.Grind.{common_steps}
 use Rattle.words.specs.Words.{small}
+use Rattle.rows.specs.declared.key.Key.TheInside.{Inside}
 use Rattle.rows.specs.Keys.{Padded}
 
 padded_zeros : (xs : List ℕ) (n : ℕ) → length xs ≡ n → n ≤ 64 → Padded (record { bytes = xs ++ replicate (64 - n) 0; len = n })
@@ -16,23 +17,26 @@ padded_zeros xs n l h = record {
 pub padded_by : (xs bs : List ℕ) → xs ≡ bs ++ replicate (64 - length bs) 0 → length bs ≤ 64 → Padded (record { bytes = xs; len = length bs })
 padded_by xs bs e h = subst (λ (zs : List ℕ). Padded (record { bytes = zs; len = length bs })) (sym e) (padded_zeros bs (length bs) refl h)
 
--- .. with capitals made small, of which a zero is none
+-- the key of what was laid out so
+pub key_before : (xs bs : List ℕ) → xs ≡ bs ++ replicate (64 - length bs) 0 → take (length bs) xs ≡ bs
+key_before xs bs e = ap (take (length bs)) e ∙ take_at bs (replicate (64 - length bs) 0) (length bs) refl
+
+-- a key with its capitals made small, and the zeros as they are
 lower_is : (c : ℕ) → to_ascii_lowercase c ≡ small c
 lower_is c = grind (arith, common_steps)
 
-zeros_small : (n : ℕ) → map small (replicate n 0) ≡ replicate n 0
-zeros_small zero = refl
-zeros_small (suc n) = ap (λ zs. 0 ∷ zs) (zeros_small n)
+module _ (k : Inside) (p : Padded k) (low : List ℕ) (is : low ≡ map to_ascii_lowercase (take k.len k.bytes)) where
+  front : length (take k.len k.bytes) ≡ k.len
+  front = length-take-le k.len k.bytes (omega (arith, p.short, p.long))
 
-module _ (xs bs new : List ℕ) (e : xs ≡ bs ++ replicate (64 - length bs) 0) (is : new ≡ map to_ascii_lowercase xs) where
-  small_before : new ≡ map small bs ++ replicate (64 - length bs) 0
-  small_before =
-      is ∙ (λ i. map (λ c. lower_is c i) xs) ∙ ap (map small) e ∙ map-append small bs (replicate (64 - length bs) 0)
-      ∙ (λ i. map small bs ++ zeros_small (64 - length bs) i)
+  as_long : length low ≡ k.len
+  as_long = ap length is ∙ length-map (take k.len k.bytes) to_ascii_lowercase ∙ front
 
-  pub padded_small : length bs ≤ 64 → Padded (record { bytes = new; len = length bs })
-  padded_small h =
-      subst (λ (zs : List ℕ). Padded (record { bytes = zs; len = length bs })) (sym small_before) (padded_zeros (map small bs) (length bs) (length-map bs small) h)
+  zeros_behind : drop k.len k.bytes ≡ replicate (64 - k.len) 0
+  zeros_behind = ap (drop k.len) p.padded ∙ drop_at (take k.len k.bytes) (replicate (64 - k.len) 0) k.len front
 
-  pub small_front : take (length bs) new ≡ map small bs
-  small_front = ap (take (length bs)) small_before ∙ take_at (map small bs) (replicate (64 - length bs) 0) (length bs) (length-map bs small)
+  pub padded_small : Padded (record { bytes = low ++ drop k.len k.bytes; len = k.len })
+  padded_small = subst (λ (zs : List ℕ). Padded (record { bytes = low ++ zs; len = k.len })) (sym zeros_behind) (padded_zeros low k.len as_long p.short)
+
+  pub small_front : take k.len (low ++ drop k.len k.bytes) ≡ map small (take k.len k.bytes)
+  small_front = take_at low (drop k.len k.bytes) k.len as_long ∙ is ∙ (λ i. map (λ c. lower_is c i) (take k.len k.bytes))

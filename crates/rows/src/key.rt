@@ -1,5 +1,5 @@
 // A key by value: at most 64 bytes, with no memory of its own.
-ghost use Rattle.std.specs.Prelude.{◌≡◌, ◌-◌, ◌≤◌, ◌<◌, ◌==◌, ◌++◌, length, take, replicate, MatchOption};
+ghost use Rattle.std.specs.Prelude.{◌≡◌, ◌-◌, ◌≤◌, ◌<◌, true, false, ◌==◌, ◌++◌, length, take, replicate, MatchOption};
 ghost use Rattle.std.proofs.Common.{rules};
 ghost use Rattle.std.specs.Cmp.{partial_order_from_own_ties};
 ghost use Rattle.std.specs.Cmp.Lexicographic.{slice_cmp};
@@ -7,8 +7,10 @@ ghost use Rattle.std.specs.Cmp.Rules.{comparing};
 ghost use Rattle.std.specs.Ordering.{nat_cmp, as_partial_cmp};
 ghost use lib.Pointwise.{pointwise};
 ghost use Rattle.pages.specs.Lists.{each};
+ghost use Rattle.pages.specs.Bytes.{all_bytes};
 ghost use Rattle.words.specs.Words.{small};
 
+use pages::give_bytes;
 use std::cmp::Ordering;
 use std::marker::Model;
 
@@ -60,17 +62,41 @@ impl Key {
         })
     }
 
+    // A key of the first 64 of these bytes, or of all where there are fewer.
+    pub fn of_front(bytes: &[u8]) -> Key
+        ensures { result ≡ take 64 bytes.now }
+    {
+        let front = &bytes[..bytes.len().min(64)];
+        Key {
+            bytes: padded(front),
+            len: front.len(),
+        }
+    }
+
     // The key of a word: its first 64 bytes, with capitals made small.
     pub fn of_word(word: &[u8]) -> Key
         ensures { result ≡ each small (take 64 word.now) }
     {
         let front = &word[..word.len().min(64)];
         let mut bytes = padded(front);
-        bytes.make_ascii_lowercase();
+        bytes[..front.len()].make_ascii_lowercase();
         Key {
             bytes,
             len: front.len(),
         }
+    }
+
+    // Cells as a key; none if one of them holds no byte.
+    pub(crate) fn in_cells(cells: &[u64]) -> Option<Key>
+        requires { length cells.now ≤ 64 }
+        ensures { MatchOption result (all_bytes cells.now ≡ false) (λ k. (all_bytes cells.now ≡ true) × (k ≡ cells.now)) }
+    {
+        let mut bytes = [0; 64];
+        give_bytes(cells, &mut bytes[..cells.len()]).ok()?;
+        Some(Key {
+            bytes,
+            len: cells.len(),
+        })
     }
 
     // The bytes of the key.

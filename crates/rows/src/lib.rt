@@ -93,6 +93,22 @@ mod tests {
     }
 
     #[test]
+    fn any_bytes_make_a_key(rt: HostRuntime) -> Result<(), Fail> {
+        let long = Row {
+            key: Key::of_front(&[b'K'; 70]),
+            doc: 1,
+            place: 7,
+        };
+        assert_eq!(rt; long.size(), 71);
+        let mut page = [0; 512];
+        put_row(&mut page, &long)?;
+        assert_eq!(rt; page[66], 75);
+        assert_eq!(rt; page[67], 0);
+        assert_eq!(rt; Key::of_front(b"Key").len(), 3);
+        Ok(())
+    }
+
+    #[test]
     fn junk_is_read_without_harm(rt: HostRuntime) -> Result<(), Fail> {
         assert_eq!(rt; rows_end(&[u64::MAX; 512]), 0);
         assert_eq!(rt; rows_end(&[1]), 0);

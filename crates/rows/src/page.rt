@@ -6,7 +6,7 @@ ghost use Rattle.rows.specs.Rows.{row_size, row_bytes, used, rows_end, row_in, r
 
 use crate::key::Key;
 use crate::row::Row;
-use pages::{Misfit, bytes_in, give_bytes, take_bytes};
+use pages::{Misfit, bytes_in, take_bytes};
 use std::marker::Model;
 
 // What stands at an offset of a page: a row, and where the next one begins.
@@ -25,17 +25,6 @@ impl Model for Stand {
     ghost view = { λ stand. record { row = stand.row; next = stand.next } };
 
     ghost inverse = { λ stand. record { row = stand.row; next = stand.next } };
-}
-
-// Cells as a key; none if one of them holds no byte.
-fn key_in(cells: &[u64]) -> Option<Key>
-    requires { length cells.now ≤ 64 }
-    ensures { MatchOption result (all_bytes cells.now ≡ false) (λ k. (all_bytes cells.now ≡ true) × (k ≡ cells.now)) }
-{
-    let mut bytes = [0; 64];
-    let key = &mut bytes[..cells.len()];
-    give_bytes(cells, key).ok()?;
-    Key::new(key)
 }
 
 // How many bytes of rows follow, as the first two cells of a page say; none if there are fewer than two, or one of them holds no byte.
@@ -70,7 +59,7 @@ fn row_in(cells: &[u64]) -> Option<Row>
     if len + 7 > cells.len() {
         return None;
     }
-    let key = key_in(&cells[1..len + 1])?;
+    let key = Key::in_cells(&cells[1..len + 1])?;
     let doc = bytes_in(&cells[len + 1..len + 5])?;
     let place = bytes_in(&cells[len + 5..len + 7])?;
     Some(Row {
