@@ -5,3 +5,4 @@ pub mod Ordered
 pub mod Packed
 pub mod Read
 pub mod Sight
+pub mod Tails

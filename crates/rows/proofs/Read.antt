@@ -422,6 +422,15 @@ module _ (xs : List ℕ) (long : get_or xs 0 0 + 7 ≤ length xs) where
       ∙ (λ i. sym length_keys i ∷ rest_from 1 (n + 1) n (omega arith) i)
       ∙ ap (λ ys. length keys ∷ keys ++ ys) (rest_from (n + 1) (n + 5) 4 (omega arith) ∙ ap (λ ys. docs ++ ys) (rest_from (n + 5) (n + 7) 2 (omega arith)))
 
+  -- document and place together
+  pub tail_is : take (n + 7 - (n + 1)) (drop (n + 1) xs) ≡ docs ++ places
+  tail_is =
+      let l = length_docs in
+      let m = length_places in
+      ap (take (n + 7 - (n + 1)))
+      (rest_from (n + 1) (n + 5) 4 (omega arith) ∙ ap (λ ys. docs ++ ys) (rest_from (n + 5) (n + 7) 2 (omega arith)) ∙ sym (append_assoc docs places (drop (n + 7) xs)))
+      ∙ take_at (docs ++ places) (drop (n + 7) xs) (n + 7 - (n + 1)) (length-append docs places ∙ omega arith)
+
   pub row_in_cells : n ≤ 64 → all_bytes keys ≡ true → all_bytes docs ≡ true → all_bytes places ≡ true →
       row_in xs ≡ Some (record { key = keys; doc = from_eight 0 docs; place = from_eight 0 places })
   row_in_cells s k d p = ap row_in cut ∙ row_in_parts keys docs places (drop (n + 7) xs) length_docs length_places (let e = length_keys in omega arith) k d p
@@ -460,6 +469,10 @@ row_in_too_long (x ∷ xs) h = row_in_long x xs h
 pub put_next : {A : Type 0} (xs done rest ys : List A) (a k : ℕ) → xs ≡ done ++ rest → length done ≡ a → put_mid a k xs ys ≡ (done ++ ys) ++ drop k rest
 put_next xs done rest ys a k e l =
     ap (λ zs. put_mid a k zs ys) e ∙ (λ i. take_at done rest a l i ++ (ys ++ drop k (drop_at done rest a l i))) ∙ sym (append_assoc done ys (drop k rest))
+
+-- a number in as many bytes as there are
+pub width_is : (ys : List ℕ) (w n k : ℕ) → ys ≡ in_bytes w n [] → length ys ≡ k → ys ≡ in_bytes k n []
+width_is ys w n k e l = let h = ap length e ∙ length_in_bytes w n [] in let q : w ≡ k = omega arith in e ∙ ap (λ m. in_bytes m n []) q
 
 -- the first cell is written
 pub set_first : (xs : List ℕ) (n : ℕ) → 1 ≤ length xs → set xs 0 n ≡ (n ∷ []) ++ drop 1 xs
