@@ -1,5 +1,6 @@
 pub mod Found
 pub mod Keyed
+pub mod Lying
 pub mod Merged
 pub mod Ordered
 pub mod Packed

@@ -142,7 +142,7 @@ rows_by_place Greater a b k d p = rows_more a b (less_from b a (inr (sym k, inr 
 
 -- the keys decide, and at equal keys what comes after them
 module _ (a b : Row) where
-  keys_then : (k t : Ordering) → k ≡ slice_cmp nat_cmp a.key b.key → (a.key ≡ b.key → RowsCompared t a b) → RowsCompared (ordering_then k t) a b
+  pub keys_then : (k t : Ordering) → k ≡ slice_cmp nat_cmp a.key b.key → (a.key ≡ b.key → RowsCompared t a b) → RowsCompared (ordering_then k t) a b
   keys_then Less t e f = rows_by_key Less a b (λ x. cc) (compared_cmp a.key b.key Less e)
   keys_then Equal t e f = f (same_is a.key b.key (sym (compared_cmp a.key b.key Equal e).equal))
   keys_then Greater t e f = rows_by_key Greater a b (λ x. cc) (compared_cmp a.key b.key Greater e)
