@@ -1,4 +1,5 @@
 pub mod Ordered
 pub mod Numbered
 pub mod Made
+pub mod Merged
 pub mod Sorted

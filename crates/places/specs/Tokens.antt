@@ -1,7 +1,8 @@
 -- Tokens: one number for each word of a document. A token is 65536 times the offset of the word's first byte in the title or in the body, and its place:
 -- a place below 32768 is one in the title, any other one in the body. Assumes nothing: these are definitions.
-use Rattle.std.specs.Prelude.{◌≡◌, ℕ, ◌+◌, ◌/◌, ◌%◌, ◌≤◌, Bool, ◌&&◌, List, [], ◌∷◌, length, take, drop, nat_le, nat_lt}
+use Rattle.std.specs.Prelude.{◌≡◌, ℕ, ◌+◌, ◌/◌, ◌%◌, ◌≤◌, ◌⊎◌, Bool, true, false, ◌&&◌, List, [], ◌∷◌, length, take, drop, nat_le, nat_lt}
 use Rattle.pages.specs.Lists.{pick, each}
+use Rattle.rows.specs.Rows.{row_less}
 use Rattle.words.specs.Words.{words}
 use Rattle.words.specs.Stretches.{to_come}
 use Rattle.documents.specs.declared.Texts.{Texts}
@@ -69,3 +70,19 @@ pub record Placed (title body before : List ℕ) (n : ℕ) (after : List ℕ) : 
   pub rows : (doc : ℕ) → rows_of_tokens doc title body (take n after) ≡ sorted_rows (word_rows doc title body)
   pub all_rows : (doc name : ℕ) → name_row doc name ∷ rows_of_tokens doc title body (take n after) ≡ sorted_rows (doc_rows doc (record { name = name; title = title; body = body }))
   pub rest : drop n after ≡ drop n before
+
+-- of two sorted lists: whether the first row of one may come first, the rows of the other being what they are
+abbrev pub NotAfter : Row → List Row → Type 0
+NotAfter r [] = Unit {0}
+NotAfter r (q ∷ qs) = row_less q r ≡ false
+
+abbrev pub Before : Row → List Row → Type 0
+Before q [] = Unit {0}
+Before q (r ∷ rs) = row_less q r ≡ true
+
+-- which of two runs of tokens the next one, `t`, comes from: it is the first of the left or of the right one, and the rest of that one and all of
+-- the other are left
+abbrev pub Chosen : List ℕ → List ℕ → List ℕ → List ℕ → ℕ → List ℕ → List ℕ → Type 0
+Chosen title body left right t lefts rights =
+    ((left ≡ t ∷ lefts) × (rights ≡ right) × ((doc : ℕ) → NotAfter (token_row doc title body t) (rows_of_tokens doc title body right)))
+    ⊎ ((right ≡ t ∷ rights) × (lefts ≡ left) × ((doc : ℕ) → Before (token_row doc title body t) (rows_of_tokens doc title body left)))

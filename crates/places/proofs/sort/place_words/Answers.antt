@@ -10,7 +10,10 @@ sort-requires c =
     let mid = c.index_words.new.tokens in
     let n = c.in_ok-n.n in
     let x = c.in_ok-n.ensures.made in
-    index_different title body c.args.tokens.now mid n x
+    record {
+      room = omega (arith, length-take n mid, x.within);
+      different = index_different title body c.args.tokens.now mid n x;
+    }
 
 pub returns : goal.returns
 returns c =
