@@ -1,3 +1,4 @@
+pub mod Cells
 mod Copied
 pub mod Pages
 pub mod Room
