@@ -113,6 +113,11 @@ module _ (title body left right : List ℕ) where
       let counted = inv.counted in
       merging_all k lefts rights out inv (nil_from_length lefts (omega arith)) (nil_from_length rights (omega arith))
 
+-- rows in order rise
+pub sorted_rising : (doc : ℕ) (title body ts us : List ℕ) → Different (rows_of_tokens doc title body ts) → rows_of_tokens doc title body us ≡ sorted_rows (rows_of_tokens doc title body ts) →
+    Rising (rows_of_tokens doc title body us)
+sorted_rising doc title body ts us d e = subst Rising (sym e) (sorted_rises _ d)
+
 -- SORTING: halves in order, merged, are all of it in order
 module _ (doc : ℕ) (title body all left right : List ℕ) (cut : all ≡ left ++ right) (d : Different (rows_of_tokens doc title body all)) where
   abbrev F : ℕ → Row
@@ -127,14 +132,13 @@ module _ (doc : ℕ) (title body all left right : List ℕ) (cut : all ≡ left 
   pub right_different : Different (rows_of_tokens doc title body right)
   right_different = pairwise_back _ (each F left) (each F right) halves
 
+  pub halves_rise : (l r : List ℕ) → each F l ≡ sorted_rows (each F left) → each F r ≡ sorted_rows (each F right) → Rising (each F l) × Rising (each F r)
+  halves_rise l r p q = (sorted_rising doc title body left l left_different p, sorted_rising doc title body right r right_different q)
+
   pub halves_merged : (l r out : List ℕ) → each F l ≡ sorted_rows (each F left) → each F r ≡ sorted_rows (each F right) → each F out ≡ merge_rows (each F l) (each F r) →
       each F out ≡ sorted_rows (rows_of_tokens doc title body all)
   halves_merged l r out p q m =
       m ∙ (λ i. merge_rows (p i) (q i)) ∙ sorted_merged (each F left) (each F right) halves ∙ ap sorted_rows (sym (ap (each F) cut ∙ each_append F left right))
-
-pub sorted_rising : (doc : ℕ) (title body ts us : List ℕ) → Different (rows_of_tokens doc title body ts) → rows_of_tokens doc title body us ≡ sorted_rows (rows_of_tokens doc title body ts) →
-    Rising (rows_of_tokens doc title body us)
-sorted_rising doc title body ts us d e = subst Rising (sym e) (sorted_rises _ d)
 
 -- fewer than two are in order
 pub few_sorted : (f : ℕ → Row) (ts : List ℕ) → length ts < 2 → each f ts ≡ sorted_rows (each f ts)

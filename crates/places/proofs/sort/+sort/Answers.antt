@@ -1,6 +1,6 @@
 use Rattle.std.proofs.Common.{◌≡◌, ◌+◌, length, take, ap, ◌∙◌, arith}
 use Rattle.places.specs.Tokens.{token_row, rows_of_tokens}
-use Rattle.places.proofs.Merged.{left_different, right_different, halves_merged, sorted_rising, few_sorted}
+use Rattle.places.proofs.Merged.{left_different, right_different, halves_rise, halves_merged, few_sorted}
 use Rattle.places.proofs.sort.+sort.Goals as goal
 
 pub returns-then-n-lt2 : goal.returns-then-n-lt2
@@ -26,18 +26,18 @@ sort-requires-2 t c = (
   ),
 )
 
-pub merge-requires : goal.merge-requires
-merge-requires t c =
-    let title = c.args.texts.title.now in
-    let body = c.args.texts.body.now in
-    let left = c.split_at_mut-left.result.0.now in
-    let right = c.split_at_mut-left.result.1.now in
-    let cut = c.split_at_mut-left.ensures.value in
-    record {
-      room = omega (arith, c.sort.auto.tokens, c.sort.auto.scratch, c.sort-2.auto.tokens, c.sort-2.auto.scratch);
-      left = λ doc. sorted_rising doc title body left c.sort.new.tokens (left_different doc title body c.args.tokens.now left right cut (c.requires.different doc)) (c.sort.ensures doc);
-      right = λ doc. sorted_rising doc title body right c.sort-2.new.tokens (right_different doc title body c.args.tokens.now left right cut (c.requires.different doc)) (c.sort-2.ensures doc);
-    }
+-- each half that was sorted rises, whichever of the two is asked for
+pub merge-requires-clause-left : goal.merge-requires-clause-left
+merge-requires-clause-left t c doc =
+    let h = halves_rise doc c.args.texts.title.now c.args.texts.body.now c.args.tokens.now c.split_at_mut-left.result.0.now c.split_at_mut-left.result.1.now
+    c.split_at_mut-left.ensures.value (c.requires.different doc) c.sort.new.tokens c.sort-2.new.tokens (c.sort.ensures doc) (c.sort-2.ensures doc) in
+    search (h.0, h.1)
+
+pub merge-requires-clause-right : goal.merge-requires-clause-right
+merge-requires-clause-right t c doc =
+    let h = halves_rise doc c.args.texts.title.now c.args.texts.body.now c.args.tokens.now c.split_at_mut-left.result.0.now c.split_at_mut-left.result.1.now
+    c.split_at_mut-left.ensures.value (c.requires.different doc) c.sort.new.tokens c.sort-2.new.tokens (c.sort.ensures doc) (c.sort-2.ensures doc) in
+    search (h.0, h.1)
 
 pub returns : goal.returns
 returns t c doc =
