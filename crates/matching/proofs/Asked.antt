@@ -1,5 +1,5 @@
 -- Each question by its parts: how many it has, and what it asks in the title and in the body. Assumes nothing.
-use Rattle.std.proofs.Common.{◌≡◌, ℕ, Bool, true, false, not, ◌&&◌, List, sym, refl, ap, ◌∙◌}
+use Rattle.std.proofs.Common.{◌≡◌, ℕ, ◌+◌, Bool, true, false, not, ◌&&◌, List, sym, refl, ap, ◌∙◌}
 use Rattle.pages.specs.Lists.{or, any, same, starts_with}
 use Rattle.words.specs.Words.{words}
 use Rattle.documents.specs.Document.{Doc}
@@ -9,6 +9,17 @@ use Rattle.matching.specs.View.{in_field, query_of}
 use Rattle.questions.specs.declared.field.Field.{Field}
 use Rattle.questions.specs.declared.field.Field.TheVariants as field
 use Rattle.matching.specs.declared.query.Query.{Query}
+use Rattle.matching.specs.declared.query.Query.TheVariants as query
+
+-- how many parts a question has
+abbrev pub parts : Query → ℕ
+parts (query.Word f w) = 0
+parts (query.Phrase f ws) = 0
+parts (query.Begins f p) = 0
+parts (query.Near n a b) = 0
+parts (query.Both' p a q b) = parts a + parts b + 1
+parts (query.Either' p a q b) = parts a + parts b + 1
+parts (query.But' p a q b) = parts a + parts b + 1
 
 -- what is so in one of the fields
 or_none : (b : Bool) → or b false ≡ b

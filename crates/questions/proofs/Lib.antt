@@ -6,6 +6,7 @@ pub mod Matching
 pub mod Order
 pub mod Quotients
 pub mod Reading
+pub mod Rising
 pub mod Rows
 pub mod Pairs
 pub mod Fields

@@ -3,7 +3,7 @@ use Rattle.std.proofs.Common.{◌≡◌, ℕ, zero, suc, ◌+◌, ◌-◌, ◌*�
 use native.Mathlib.Nat.{sub-zero, suc-sub-suc}
 use lib.Seq.{paste}
 use Rattle.std.specs.List.{insert}
-use Rattle.std.proofs.lemmas.List.{take_all, take-take, take_at, drop_at, drop-drop, get_or-drop, length-take-le, take-append-le}
+use Rattle.std.proofs.lemmas.List.{take_all, take-take, take_at, drop_at, drop-drop, drop_more, get_or-drop, length-take-le, take-append-le}
 use Rattle.std.proofs.lemmas.Slice.{drop-append-drop}
 use Rattle.std.proofs.lemmas.Bool.Decides.{nat_tests}
 use Rattle.std.proofs.lemmas.Bool.{and_parts, and_from, leb-true, le-leb, cases_lt}
@@ -75,6 +75,11 @@ unfolding hits_in
 getD_hits_in zero xs j d l = absurd (omega arith)
 getD_hits_in (suc n) xs zero d l = refl
 getD_hits_in (suc n) xs (suc j) d l = getD_hits_in n (drop 2 xs) j d (omega arith) ∙ hit_further xs j
+
+-- from one hit of a row on
+pub drop_hits_more : (n : ℕ) (xs : List ℕ) (i : ℕ) → i < n → drop i (hits_in n xs) ≡ hit_at xs i ∷ drop (i + 1) (hits_in n xs)
+drop_hits_more n xs i l =
+    drop_more (hits_in n xs) i (hit_at xs 0) (omega (arith, length_hits_in n xs)) ∙ ap (λ (h : Hit). h ∷ drop (i + 1) (hits_in n xs)) (getD_hits_in n xs i (hit_at xs 0) l)
 
 take_inserted : {X : Type 0} (n i : ℕ) (x : X) (xs : List X) → i ≤ n → i ≤ length xs → take (suc n) (insert xs i x) ≡ take i xs ++ (x ∷ take (n - i) (drop i xs))
 take_inserted n zero x xs h k = rw sub-zero
@@ -187,6 +192,9 @@ HoldsBest hs most row count row₁ = (count ≡ smaller most (length hs)) × (ro
 pub holds_none : (most : ℕ) (row : List ℕ) → HoldsBest [] most row 0 row
 unfolding in_order hits_out
 holds_none most row = let none : take most (in_order []) ≡ [] = take_all most [] (omega arith) in (omega (arith, smaller_is most 0), rw none)
+
+pub holds_room : (hs : List Hit) (most : ℕ) (row : List ℕ) (count : ℕ) (row₁ : List ℕ) → HoldsBest hs most row count row₁ → 2 * most ≤ length row₁ → has_room row₁ count most ≡ true
+holds_room hs most row count row₁ k le = room_is row₁ count most (omega (arith, k.0, smaller_is most (length hs))) le
 
 -- with one more put in, it holds the best of them and that one
 pub holds_one_more : (hs : List Hit) (most : ℕ) (row : List ℕ) (count : ℕ) (row₁ : List ℕ) (h : Hit) (p : Placed) (row₂ : List ℕ) →

@@ -5,7 +5,7 @@ ghost use Rattle.questions.specs.Order.{better};
 ghost use Rattle.questions.specs.Best.{hit_of};
 ghost use Rattle.questions.specs.Rows.{as_hit, has_room, GoesAmong, moved, Inserted, PutSays};
 
-use std::cmp::Reverse;
+use std::cmp::Ordering;
 
 // A document, by its name, and the points that it has.
 #[derive(Clone, Copy, Debug, PartialEq, Eq)]
@@ -19,7 +19,11 @@ impl Hit {
     pub fn is_better(self, other: Hit) -> bool
         ensures { result ≡ better (as_hit self) (as_hit other) }
     {
-        (self.points, Reverse(self.doc)) > (other.points, Reverse(other.doc))
+        match self.points.cmp(&other.points) {
+            Ordering::Greater => true,
+            Ordering::Equal => self.doc < other.doc,
+            Ordering::Less => false,
+        }
     }
 
     // The same document with so many points more; where the sum does not fit, with the most that do.

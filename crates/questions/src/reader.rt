@@ -2,7 +2,8 @@
 ghost use Rattle.std.specs.Prelude.{◌≡◌, MatchOption};
 ghost use Rattle.questions.specs.Query.{Query};
 ghost use Rattle.questions.specs.Spelling.{a_word};
-ghost use Rattle.questions.specs.Reading.{nothing, got, whole, Left, small_letter, read_number, read_within, read_bytes, read_word, read_words, read_phrase, read_field, read_near, read_query};
+ghost use Rattle.questions.specs.Kinds.{kind_number};
+ghost use Rattle.questions.specs.Reading.{nothing, got, whole, Left, small_letter, read_number, read_within, read_bytes, read_word, read_words, read_phrase, read_field, read_near, read_single, read_query};
 
 use crate::{Field, Kind};
 use words::in_word;
@@ -101,6 +102,19 @@ fn read_near(bytes: &[u8]) -> Option<&[u8]>
     read_word(second)
 }
 
+// What stands after a question of one part, of this kind; the kinds that join two questions have no such part. It stands apart from `read_question`, which
+// so needs less of the stack for each question within another.
+fn read_single(kind: Kind, bytes: &[u8]) -> Option<&[u8]>
+    ensures { Left (read_single (kind_number kind) bytes.now) result }
+{
+    match kind {
+        Kind::Word | Kind::Begins => read_word(read_field(bytes)?),
+        Kind::Phrase => read_phrase(read_field(bytes)?),
+        Kind::Near => read_near(bytes),
+        Kind::Both | Kind::Either | Kind::But => None,
+    }
+}
+
 // A question, nested at most so deep and of at most so many parts.
 pub fn read_question<'a>(bytes: &'a [u8], depth: u64, left: u64) -> Option<Question<'a>>
     ensures { MatchOption result (read_query depth left bytes.now ≡ nothing) (λ a. (q : Query) × (read_query depth left bytes.now ≡ whole a.left q a.rest.now)) }
@@ -108,14 +122,15 @@ pub fn read_question<'a>(bytes: &'a [u8], depth: u64, left: u64) -> Option<Quest
     let depth = depth.checked_sub(1)?;
     let left = left.checked_sub(1)?;
     let (byte, rest) = bytes.split_first()?;
-    let rest = match Kind::try_from(*byte).ok()? {
-        Kind::Word | Kind::Begins => read_word(read_field(rest)?)?,
-        Kind::Phrase => read_phrase(read_field(rest)?)?,
-        Kind::Near => read_near(rest)?,
+    let kind = Kind::try_from(*byte).ok()?;
+    match kind {
+        Kind::Word | Kind::Phrase | Kind::Begins | Kind::Near => {
+            let rest = read_single(kind, rest)?;
+            Some(Question { left, rest })
+        }
         Kind::Both | Kind::Either | Kind::But => {
             let first = read_question(rest, depth, left)?;
-            return read_question(first.rest, depth, first.left);
+            read_question(first.rest, depth, first.left)
         }
-    };
-    Some(Question { left, rest })
+    }
 }

@@ -41,4 +41,4 @@ says-best hits out k most pairs out₁ none same is a e =
 pub returns : goal.returns
 returns c =
     let f = c.in_ok-counted.ensures in
-    says-best c.args.hits.now c.args.out.now c.args.k c.min-most.result c.in_ok-counted.counted.now c.keep_best.new.out f.0 f.1 f.2 c.min-most.ensures c.keep_best.ensures
+    says-best c.args.hits.now c.args.out.now c.args.k _ c.in_ok-counted.counted.now c.keep_best.new.out f.0 f.1 f.2 (omega arith) c.keep_best.ensures
