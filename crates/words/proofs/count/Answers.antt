@@ -16,5 +16,7 @@ count-requires-clause-fits c =
 
 pub returns : goal.returns
 returns c =
+    let counted =
     count_from_yields_List c.new.result _ c.count.ensures.ran (YieldsList-from_first (λ w. w) words_left (words_left c.new.result) cc)
-    ∙ length_standing _ _ ∙ (λ i. length (to_come (c.new.ensures.text i) (c.new.ensures.first i)))
+    ∙ length_standing _ _ ∙ (λ i. length (to_come (c.new.ensures.text i) (c.new.ensures.first i))) in
+    omega (arith, counted)
