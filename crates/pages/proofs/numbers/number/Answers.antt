@@ -1,4 +1,4 @@
-use Rattle.std.proofs.Common.{ℕ, ◌+◌, ◌*◌, ◌^◌, ◌<◌, ◌≤◌, get_or, take, sym, refl, ap, ◌∙◌, arith, length-take}
+use Rattle.std.proofs.Common.{◌≡◌, ℕ, ◌+◌, ◌*◌, ◌^◌, ◌<◌, ◌≤◌, get_or, take, refl, ap, ◌∙◌, arith, length-take}
 use native.Mathlib.Nat.{pow-le-pow_right}
 use Rattle.std.proofs.lemmas.List.{take_more}
 use Rattle.pages.specs.Bytes.{from_eight}
@@ -21,16 +21,19 @@ pub overflow_mul-n : goal.overflow_mul-n
 overflow_mul-n c = let h = room c.loop-byte.byte-index c.loop-byte.n 0 (omega arith) c.loop-byte.invariant.1 (omega arith) in record { fits = omega arith }
 
 pub overflow_add-n : goal.overflow_add-n
-overflow_add-n c = record { fits = room c.loop-byte.byte-index c.loop-byte.n _ (omega arith) c.loop-byte.invariant.1 (omega (arith, c.from.ensures)) }
+overflow_add-n c =
+    let h = room c.loop-byte.byte-index c.loop-byte.n c.from.result (omega arith) c.loop-byte.invariant.1 (omega (arith, c.from.ensures)) in
+    record { fits = omega (arith, h, c.from.ensures) }
 
 pub loop-byte-preserved : goal.loop-byte-preserved
 loop-byte-preserved c =
     let xs = take c.min.result c.args.bytes.now in
     let i = c.loop-byte.byte-index in
     let b = get_or xs i 0 in
-    let s : b < 256 = omega (arith, c.from.ensures) in (
-      ap (λ m. 256 * c.loop-byte.n + m) c.from.ensures ∙ ap (λ n. 256 * n + b) c.loop-byte.invariant.0 ∙ sym (from_eight_push (take i xs) 0 b)
-          ∙ ap (from_eight 0) (sym (take_more xs i 0 c.loop-byte-test.true)),
-      from_eight_less i c.loop-byte.n _ c.loop-byte.invariant.1 (omega (arith, c.from.ensures, s)),
+    let s : c.from.result < 256 = omega (arith, c.from.ensures) in
+    let read : from_eight 0 (take (i + 1) xs) ≡ 256 * from_eight 0 (take i xs) + b = ap (from_eight 0) (take_more xs i 0 c.loop-byte-test.true) ∙ from_eight_push (take i xs) 0 b in
+    let less = from_eight_less i c.loop-byte.n c.from.result c.loop-byte.invariant.1 s in (
+      omega (arith, read, c.from.ensures, c.loop-byte.invariant.0),
+      omega (arith, less),
       c.loop-byte.invariant.2,
     )
