@@ -2,3 +2,5 @@ pub mod Laws
 pub mod Standing
 pub mod Iterated
 pub mod Compared
+pub mod Agreeing
+pub mod Ends
