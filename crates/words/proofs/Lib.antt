@@ -4,3 +4,4 @@ pub mod Iterated
 pub mod Compared
 pub mod Agreeing
 pub mod Ends
+pub mod FirstDiffering

@@ -128,20 +128,31 @@ pub fn compare_keys(a: &[u8], b: &[u8]) -> Ordering
     a.cmp(b)
 }
 
-// Compares a word where it stands in a text with a key: capitals of the word are made small.
+// Compares a word where it stands in a text with a key: capitals of the word are made small. Both are cut to the shorter
+// one, so that a single end is looked for at each byte; `Iterator::cmp` looks for two, and takes its answer apart there.
 pub fn compare_to_key(word: &[u8], key: &[u8]) -> Ordering
     ensures { Compared result (each small word.now) key.now }
 {
-    word.iter().map(|b| made_small(*b)).cmp(key.iter().copied())
+    let both = word.len().min(key.len());
+    word[..both]
+        .iter()
+        .zip(key[..both].iter())
+        .map(|(b, k)| made_small(*b).cmp(k))
+        .find(|order| order.is_ne())
+        .unwrap_or_else(|| word.len().cmp(&key.len()))
 }
 
 // Compares two words where they stand in a text, or in two.
 pub fn compare_words(a: &[u8], b: &[u8]) -> Ordering
     ensures { Compared result (each small a.now) (each small b.now) }
 {
-    a.iter()
-        .map(|x| made_small(*x))
-        .cmp(b.iter().map(|y| made_small(*y)))
+    let both = a.len().min(b.len());
+    a[..both]
+        .iter()
+        .zip(b[..both].iter())
+        .map(|(x, y)| made_small(*x).cmp(&made_small(*y)))
+        .find(|order| order.is_ne())
+        .unwrap_or_else(|| a.len().cmp(&b.len()))
 }
 
 // The words of every text: cut at each byte that makes none, of 1 to 64 bytes, small, few enough for the text.
