@@ -9,12 +9,13 @@ use matching::Query;
 use std::alloc::{AllocError, Global};
 use std::marker::Model;
 
-// A document owns its title and its body. To copy it asks for memory, and can fail.
+// A document owns its title and its body. To copy it asks for memory, and can fail. Its fields are open: one is made of texts that are there, and its texts
+// are taken out, with no copy of them.
 #[derive(Clone, Drop)]
 pub struct Document {
-    name: u64,
-    title: Vec<u8>,
-    body: Vec<u8>,
+    pub name: u64,
+    pub title: Vec<u8>,
+    pub body: Vec<u8>,
 }
 
 // A document is read as the statements have it: its name, its title and its body.
@@ -35,6 +36,13 @@ impl Document {
         let title = Vec::from_slice(heap, texts.title)?;
         let body = Vec::from_slice(heap, texts.body)?;
         Ok(Document { name, title, body })
+    }
+
+    // The same document once more, on this heap.
+    pub fn copy(&self, heap: Global) -> Result<Document, AllocError>
+        ensures { IfOk result (λ d. d ≡ self.now) }
+    {
+        Document::new(heap, self.name(), self.texts())
     }
 
     // The name it goes by.

@@ -23,16 +23,17 @@ use std::marker::Model;
 pub type Answer = Result<Vec<Vec<u8>>, Refusal>;
 
 // The documents, and the heap that they are on. They stand in lists, and each command goes through them as the statements do. A map by name would find
-// one sooner, but this engine is there to be compared with, and the quick form is what is compared.
+// one sooner, but this engine is there to be compared with, and the quick form is what is compared. The lists are open: whoever compares makes an engine
+// of lists that are there, and takes them out.
 #[derive(Drop)]
 pub struct Plain {
-    heap: Global,
+    pub heap: Global,
     // The documents that are asked.
-    asked: Vec<Document>,
+    pub asked: Vec<Document>,
     // Those that will be asked from the next note on.
-    coming: Vec<Document>,
+    pub coming: Vec<Document>,
     // Versions that are neither any more, but were since the last sweep.
-    gone: Vec<Document>,
+    pub gone: Vec<Document>,
 }
 
 // The plain engine is read as the statements have it.

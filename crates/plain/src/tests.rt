@@ -92,3 +92,42 @@ fn documents_that_match_are_counted(rt: HostRuntime) -> Result<(), Fail> {
     check_rows(&rt, &plain.how_many(&smoke)?, &[&[0, 0, 0, 0, 0, 0, 0, 1]]);
     Ok(())
 }
+
+#[test]
+fn an_engine_is_made_of_lists_and_taken_apart(rt: HostRuntime) -> Result<(), Fail> {
+    let heap = rt.alloc();
+    let drill = Document {
+        name: 7,
+        title: Vec::from_slice(heap, b"Drill")?,
+        body: Vec::from_slice(heap, b"Smoke seen")?,
+    };
+    let mut asked = Vec::new(heap);
+    asked.push(drill.copy(heap)?)?;
+    let mut gone = Vec::new(heap);
+    gone.push(drill)?;
+    let plain = Plain {
+        heap,
+        asked,
+        coming: Vec::new(heap),
+        gone,
+    };
+    check_rows(&rt, &plain.fetch(7)?, &[b"Drill", b"Smoke seen"]);
+    assert_eq!(rt; plain.weight(), Some(256 + 15));
+    assert_eq!(rt; plain.coming.len(), 0);
+    let Plain {
+        heap: _heap,
+        asked,
+        coming: _coming,
+        mut gone,
+    } = plain;
+    assert_eq!(rt; asked.len(), 1);
+    assert_eq!(rt; asked[0].name, 7);
+    let Some(document) = gone.pop() else {
+        panic!(rt; "nothing is gone");
+    };
+    let Document { name, title, body } = document;
+    assert_eq!(rt; name, 7);
+    assert_eq!(rt; title.as_slice(), b"Drill".as_slice());
+    assert_eq!(rt; body.as_slice(), b"Smoke seen".as_slice());
+    Ok(())
+}
