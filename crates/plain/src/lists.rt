@@ -8,7 +8,7 @@ use crate::document::Document;
 use documents::Texts;
 use std::alloc::{AllocError, Global};
 
-// Copies of the documents of a list: first those of a name, and then all others.
+// Copies of the documents of a list: first those of a name, and then all others. Each is put at once into the list where it stays.
 pub fn parted(
     heap: Global,
     name: u64,
@@ -16,10 +16,17 @@ pub fn parted(
 ) -> Result<(Vec<Document>, Vec<Document>), AllocError>
     ensures { IfOk result (λ v. (v.0.items ≡ named name among.now) × (v.1.items ≡ others name among.now)) }
 {
-    among
-        .to_vec(heap)?
-        .into_iter()
-        .partition(heap, |document| document.name() == name)
+    let mut of_the_name = Vec::new(heap);
+    let mut others = Vec::new(heap);
+    for document in among {
+        let copy = document.copy(heap)?;
+        if copy.name() == name {
+            of_the_name.push(copy)?;
+        } else {
+            others.push(copy)?;
+        }
+    }
+    Ok((of_the_name, others))
 }
 
 // Puts a document among others, where its name goes.
