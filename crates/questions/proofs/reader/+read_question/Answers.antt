@@ -70,4 +70,3 @@ returns-in_ok-first-in-Both t c =
     let f = c.in_ok-first-in-Both.ensures in
     told_joined (λ (a : Question). a.left) (λ (a : Question). a.rest.now) _ (read_query depth first.left first.rest.now) (k.0 f.0) c.read_question-in-Both.result
     (q ∙ k.1 (read_query depth) left rest ∙ two_left (read_query depth) k.0 left rest f.0 first.left first.rest.now f.1) c.read_question-in-Both.ensures
-
