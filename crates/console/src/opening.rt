@@ -44,5 +44,6 @@ pub fn open_engine(rt: &HostRuntime) -> anyhow::Result<Engine<FileDevice>> {
 // How many pages are asked for. Whether so many are possible is seen where the file is opened.
 fn read_pages(text: &str) -> anyhow::Result<u64> {
     text.parse::<u64>()
+        .ok()
         .context("expected PAGES to be a number, from 256 to 16777216")
 }
