@@ -1,48 +1,15 @@
 -- Laws of the six bytes of document and place behind a row's key, which decide between rows of one key. Assumes nothing.
-use Rattle.std.proofs.Common.{◌≡◌, ℕ, ◌+◌, ◌*◌, ◌<◌, true, ltb, ◌⊎◌, List, [], ◌∷◌, ◌++◌, length, Ordering, Less, Equal, Greater, sym, refl, ap, ◌∙◌, subst, inl, inr, ⊎_elim, arith, length-append}
-use Rattle.std.proofs.lemmas.Bool.{cases_order, and_parts, true≢false, ltb-true}
+use Rattle.std.proofs.Common.{◌≡◌, ℕ, ◌+◌, ◌*◌, ◌<◌, true, ltb, ◌⊎◌, List, ◌++◌, length, Ordering, Less, Equal, Greater, sym, ap, ◌∙◌, subst, inl, inr, ⊎_elim, arith, length-append}
+use Rattle.std.proofs.lemmas.Bool.{cases_order}
 use Rattle.pages.specs.Lists.{earlier}
 use Rattle.pages.specs.Bytes.{all_bytes, from_eight}
-use Rattle.pages.proofs.Lists.{same_is, every_join, earlier_parts}
+use Rattle.pages.proofs.ByteRows.{from_eight_append, from_two, earlier_lower}
+use Rattle.pages.proofs.Lists.{same_is, every_join}
 use Rattle.words.specs.Compared.{Compared}
 use Rattle.rows.specs.Rows.{Row}
 use Rattle.rows.specs.Orders.{RowsCompared}
 use Rattle.rows.proofs.Ordered.{row_ext, less_from, rows_less, rows_more, rows_equal}
 use Rattle.rows.proofs.Read.{bounded}
-
--- BYTES AS NUMBERS: of two rows of bytes that are as long, the earlier one spells the lower number
-from_eight_over : (xs ys : List ℕ) (a b : ℕ) → length xs ≡ length ys → all_bytes xs ≡ true → a < b → from_eight a xs < from_eight b ys
-unfolding from_eight
-from_eight_over [] [] a b l h m = m
-from_eight_over [] (y ∷ ys) a b l h m = absurd (omega arith)
-from_eight_over (x ∷ xs) [] a b l h m = absurd (omega arith)
-from_eight_over (x ∷ xs) (y ∷ ys) a b l h m =
-    let t = and_parts (ltb x 256) (all_bytes xs) h in
-    let s : x < 256 = ltb-true x 256 t.0 in
-    from_eight_over xs ys (256 * a + x) (256 * b + y) (omega arith) t.1 (omega arith)
-
-earlier_lower : (xs ys : List ℕ) (a : ℕ) → length xs ≡ length ys → all_bytes xs ≡ true → earlier xs ys ≡ true → from_eight a xs < from_eight a ys
-unfolding from_eight earlier
-earlier_lower [] [] a l h e = absurd (true≢false (sym e))
-earlier_lower [] (y ∷ ys) a l h e = absurd (omega arith)
-earlier_lower (x ∷ xs) [] a l h e = absurd (omega arith)
-earlier_lower (x ∷ xs) (y ∷ ys) a l h e =
-    let t = and_parts (ltb x 256) (all_bytes xs) h in
-    ⊎_elim (λ m. from_eight_over xs ys (256 * a + x) (256 * a + y) (omega arith) t.1 (omega arith))
-    (λ m. subst (λ (z : ℕ). from_eight (256 * a + x) xs < from_eight (256 * a + z) ys) m.0 (earlier_lower xs ys (256 * a + x) (omega arith) t.1 m.1))
-    (earlier_parts x y xs ys e)
-
-from_eight_append : (xs ys : List ℕ) (a : ℕ) → from_eight a (xs ++ ys) ≡ from_eight (from_eight a xs) ys
-unfolding from_eight
-from_eight_append [] ys a = refl
-from_eight_append (x ∷ xs) ys a = from_eight_append xs ys (256 * a + x)
-
-from_two : (xs : List ℕ) (a : ℕ) → length xs ≡ 2 → from_eight a xs ≡ 65536 * a + from_eight 0 xs
-unfolding from_eight
-from_two [] a l = absurd (omega arith)
-from_two (x ∷ []) a l = absurd (omega arith)
-from_two (x ∷ y ∷ []) a l = omega arith
-from_two (x ∷ y ∷ z ∷ xs) a l = absurd (omega arith)
 
 pub compared_as : (r : Ordering) (a b x y : List ℕ) → a ≡ x → b ≡ y → Compared r a b → Compared r x y
 compared_as r a b x y p q h = subst (λ (z : List ℕ). Compared r z y) p (subst (λ (z : List ℕ). Compared r a z) q h)
