@@ -1,6 +1,6 @@
-use Rattle.std.proofs.Common.{◌≡◌, List, ℕ, [], ◌∷◌, ◌≤◌, None, take, drop, length, sym, ap, ◌∙◌, arith}
+use Rattle.std.proofs.Common.{◌≡◌, List, ℕ, [], ◌∷◌, ◌≤◌, None, take, drop, length, sym, ap, ◌∙◌, arith, rules, tests}
 use Rattle.std.specs.Int.{w64, from_be_bytes}
-use Rattle.std.proofs.lemmas.List.{length-take-le}
+use Rattle.std.proofs.lemmas.List.{length-take-le, take_rest}
 use Rattle.pages.specs.Bytes.{from_eight}
 use Rattle.questions.specs.Reading.{got, read_part, read_number}
 use Rattle.questions.proofs.Reading.{part_told, part_here, then_on, then_none}
@@ -34,4 +34,4 @@ returns c =
     let long : 8 ≤ length bs = omega (arith, c.in_ok-eight.ensures.cases.2) in
     let part : read_part 8 bs ≡ got eight c.in_ok-eight.rest.now = part_here 8 bs long ∙ ap (λ xs. got xs (drop 8 bs)) (sym first) ∙ ap (got eight) (sym rest) in
     let spelt = c.from_be_bytes.ensures ∙ eight_spell eight (ap length first ∙ length-take-le 8 bs long) in
-    then_on _ part ∙ ap (λ n. got n c.in_ok-eight.rest.now) (sym spelt)
+    then_on _ part ∙ ap (λ n. got n c.in_ok-eight.rest.now) (sym spelt) ∙ ap (got c.from_be_bytes.result) (search (rules, tests, rest, take_rest))

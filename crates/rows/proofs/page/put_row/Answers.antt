@@ -25,16 +25,12 @@ pub returns : goal.returns
 returns c =
     let e = c.rows_end-end.ensures.end in
     let s = c.size.ensures.size in
-    let end = c.rows_end-end.result in
-    let size = c.size.result in
-    let k : end + size - end ≡ row_size c.args.row.now = omega arith in
     let t = c.take_bytes.ensures in
     let written = taken_whole _ _ _ _ t.taken t.cells (search (rules, places)) in
     let ok = t.taken ∙ eq-eqb _ _ (search (rules, places)) in
-    let n : end + size - 2 ≡ end + (end + size - end) - 2 = omega arith in
     record {
       fits = ok ∙ has_room c.args.page.now c.args.row.now (omega arith) (omega arith) (omega arith);
-      page = row_put c.args.page.now c.args.row.now end (end + size - end) c.put_bytes.new.cells c.take_bytes.new.cells e k c.put_bytes.ensures
-          (written ∙ c.to_be_bytes.ensures ∙ sym (in_bytes_high 2 (end + size - 2)) ∙ ap (λ m. in_bytes 2 m []) n) (omega arith) (omega arith)
+      page = row_put c.args.page.now c.args.row.now _ _ c.put_bytes.new.cells c.take_bytes.new.cells (omega (arith, e)) (omega arith) c.put_bytes.ensures
+          (written ∙ c.to_be_bytes.ensures ∙ sym (in_bytes_high 2 _) ∙ ap (λ m. in_bytes 2 m []) (omega arith)) (omega arith) (omega arith)
           ∙ ap (λ b. pick b (with_row c.args.page.now c.args.row.now) c.args.page.now) (sym ok);
     }

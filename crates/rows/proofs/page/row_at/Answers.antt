@@ -21,4 +21,4 @@ returns c =
     let got = c.in_ok-get.ensures.lookup.0 in
     sym
     (stands c.args.page.now c.args.at c.rows_end.result c.rows_end.ensures.end ∙ ap (λ xs. stand c.args.at (row_in xs)) (sym got.2) ∙ ap (stand c.args.at) (sym c.in_ok-row.ensures)
-    ∙ ap (λ n. Some (record { row = c.in_ok-row.row; next = c.args.at + n })) (sym c.size.ensures.size))
+    ∙ ap (λ n. Some (record { row = c.in_ok-row.row; next = n })) (omega (arith, c.size.ensures.size)))

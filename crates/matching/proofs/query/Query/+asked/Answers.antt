@@ -1,4 +1,4 @@
-use Rattle.std.proofs.Common.{ℕ, Bool, List, map, vec_items, ap, ◌∙◌}
+use Rattle.std.proofs.Common.{◌≡◌, ℕ, Bool, not, List, map, vec_items, ap, ◌∙◌, arith, rules}
 use Rattle.pages.specs.Lists.{any, same, starts_with}
 use Rattle.words.specs.Words.{words}
 use Rattle.questions.specs.Query.{matches, words_somewhere, near_in}
@@ -84,7 +84,8 @@ returns-then-asked-3 t c d title body =
     let b = c.in-But.b.value in
     let first = c.if-asked-3.ensures d title body ∙ ap (λ q. matches d (query_of q)) c.deref-in-But.ensures in
     let second = c.asked-then-asked-3.ensures d title body ∙ ap (λ q. matches d (query_of q)) c.deref-then-asked-3.ensures in
-    but_then d c.args.self.now a b c.asked-then-asked-3.result (ap query_of c.in-But.is) first second
+    let said : not c.asked-then-asked-3.result ≡ matches d (query_of c.args.self.now) = but_then d c.args.self.now a b c.asked-then-asked-3.result (ap query_of c.in-But.is) first second in
+    grind (arith, rules, said)
 
 pub returns-else-asked-3 : goal.returns-else-asked-3
 returns-else-asked-3 t c d title body =

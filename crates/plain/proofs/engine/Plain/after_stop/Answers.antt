@@ -1,4 +1,5 @@
-use Rattle.std.proofs.Common.{◌++◌, ap}
+use Rattle.std.proofs.Common.{◌++◌, ap, rules, arith}
+use Rattle.std.proofs.lemmas.List.{set-get_or}
 use Rattle.plain.proofs.Copies.{same_from_clones}
 use Rattle.reports.specs.Plain.{after_stop}
 use Rattle.plain.specs.View.{a_plain}
@@ -8,4 +9,4 @@ pub returns : goal.returns
 unfolding after_stop
 returns c =
     let copied = same_from_clones _ _ c.in_ok-coming.ensures.cases.0 in
-    rw (← c.self.view_is) (rw c.in_ok-append.ensures.items (ap (λ ds. a_plain c.self.inside.asked.items ds (c.self.inside.gone.items ++ c.self.inside.coming.items)) copied))
+    rw (← c.self.view_is) (rw c.in_ok-append.ensures.items (ap (λ ds. a_plain c.self.inside.asked.items ds (c.self.inside.gone.items ++ c.self.inside.coming.items)) (grind (arith, rules, copied, set-get_or))))

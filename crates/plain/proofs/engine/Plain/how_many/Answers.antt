@@ -1,4 +1,4 @@
-use Rattle.std.proofs.Common.{[], ◌∷◌, map, length, vec_items, sym, refl, ap, ◌∙◌}
+use Rattle.std.proofs.Common.{[], ◌∷◌, map, length, vec_items, sym, refl, ap, ◌∙◌, arith}
 use Rattle.pages.specs.Bytes.{eight}
 use Rattle.pages.specs.Lists.{those}
 use Rattle.pages.proofs.Places.{eight_is}
@@ -11,7 +11,7 @@ pub returns : goal.returns
 unfolding turn
 returns c =
     let n = c.count.ensures ∙ ap (λ ds. length (those (λ d. matches d (query_of c.args.query.now)) ds)) (c.deref.ensures.value ∙ ap (λ w. w.asked) c.self.view_is) in
-    let row = c.in_ok-from_slice.ensures.items ∙ c.to_be_bytes-row.ensures ∙ sym (eight_is c.count.result) ∙ ap eight n in
+    let row = c.in_ok-from_slice.ensures.items ∙ c.to_be_bytes-row.ensures ∙ sym (eight_is _) ∙ ap eight (omega (arith, n)) in
     record {
       reply = refl;
       shows = ap (map vec_items) c.in_ok-vec.ensures.items ∙ ap (λ r. r ∷ []) row;

@@ -1,4 +1,5 @@
-use Rattle.std.proofs.Common.{map, vec_items, refl, ap}
+use Rattle.std.proofs.Common.{map, vec_items, refl, ap, rules, arith}
+use Rattle.std.proofs.lemmas.List.{set-get_or}
 use Rattle.plain.proofs.Copies.{same_from_clones}
 use Rattle.reports.specs.Plain.{turn}
 use Rattle.plain.specs.View.{a_plain}
@@ -11,5 +12,5 @@ returns c =
     rw (← c.self.view_is) record {
       reply = refl;
       shows = ap (map vec_items) c.new.ensures.items;
-      next = ap (λ ds. a_plain ds c.self.inside.coming.items c.self.inside.gone.items) copied;
+      next = grind (arith, rules, copied, set-get_or);
     }

@@ -6,6 +6,7 @@ use Rattle.pages.specs.Lists.{none_of}
 use Rattle.documents.specs.Document.{Doc}
 use Rattle.reports.specs.Plain.{turn, named, others}
 use Rattle.plain.specs.View.{changed}
+use Rattle.plain.proofs.Copies.{same_from_clones}
 use Rattle.plain.proofs.Empty.{none_unless_any}
 use Rattle.plain.proofs.engine.Plain.remove.Goals as goal
 
@@ -34,5 +35,5 @@ returns c =
     rw some record {
       reply = refl;
       shows = ap (map vec_items) c.new.ensures.items;
-      next = c.in_ok-change.ensures ∙ ap (λ l. changed w l c.in_ok-leaving.coming.items) leave ∙ ap (changed w (named n w.coming)) stay;
+      next = rw c.in_ok-change.ensures (rw leave (ap (changed w (named n w.coming)) (search (rules, tests, stay, same_from_clones))));
     }
