@@ -1,9 +1,9 @@
-use Rattle.std.proofs.Common.{◌≡◌, ◌+◌, ◌-◌, [], ap, sym, ◌∙◌, arith, rules}
+use Rattle.std.proofs.Common.{[], ap, sym, ◌∙◌, arith, rules}
 use Rattle.std.proofs.lemmas.List.{places}
 use Rattle.std.proofs.lemmas.Bool.{eq-eqb}
 use Rattle.pages.specs.Lists.{pick}
 use Rattle.pages.specs.Bytes.{in_bytes}
-use Rattle.rows.specs.Rows.{row_size, with_row}
+use Rattle.rows.specs.Rows.{with_row}
 use Rattle.pages.proofs.Places.{in_bytes_high}
 use Rattle.rows.proofs.Read.{no_room, has_room, row_put, taken_whole}
 use Rattle.rows.proofs.page.put_row.Goals as goal

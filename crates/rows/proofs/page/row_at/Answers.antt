@@ -1,4 +1,4 @@
-use Rattle.std.proofs.Common.{◌+◌, Some, sym, ap, ◌∙◌, ⊎_elim, arith}
+use Rattle.std.proofs.Common.{Some, sym, ap, ◌∙◌, ⊎_elim, arith}
 use Rattle.rows.specs.Rows.{row_in, stand}
 use Rattle.rows.proofs.Read.{stands, none_stands}
 use Rattle.rows.proofs.page.row_at.Goals as goal

@@ -8,8 +8,8 @@ use Rattle.driver.proofs.Running.{cleared, powered}
 use Rattle.driver.proofs.machine.Engine.power_on.Goals as goal
 
 -- what is told first, under another spelling of the same
-told_so : {D : Type 0} (stands : D → Device → Type 0) (acts : ℕ) (told said : Event) (x : D) (m : List ℕ) (x₁ : D) (m₁ : List ℕ) (r : Ran) → Went stands acts told x m x₁ m₁ r → told ≡ said → Went stands acts said x m x₁ m₁ r
-told_so stands acts told said x m x₁ m₁ r went is = subst (λ e. Went stands acts e x m x₁ m₁ r) is went
+told_so : {D : Type 0} (stands : D → Device → Type 0) (acts : ℕ) (told meant : Event) (x : D) (m : List ℕ) (x₁ : D) (m₁ : List ℕ) (r : Ran) → Went stands acts told x m x₁ m₁ r → told ≡ meant → Went stands acts meant x m x₁ m₁ r
+told_so stands acts told meant x m x₁ m₁ r went is = subst (λ e. Went stands acts e x m x₁ m₁ r) is went
 
 pub returns : goal.returns
 returns g c =

@@ -2,7 +2,6 @@ use Rattle.std.proofs.Common.{map, vec_items, refl, ap, rules, arith}
 use Rattle.std.proofs.lemmas.List.{set-get_or}
 use Rattle.plain.proofs.Copies.{same_from_clones}
 use Rattle.reports.specs.Plain.{turn}
-use Rattle.plain.specs.View.{a_plain}
 use Rattle.plain.proofs.engine.Plain.note.Goals as goal
 
 pub returns : goal.returns

@@ -1,4 +1,4 @@
-use Rattle.std.proofs.Common.{List, ℕ, length, subst, arith}
+use Rattle.std.proofs.Common.{ℕ, subst, arith}
 use Rattle.rows.specs.Keys.{Padded}
 use Rattle.rows.proofs.Keyed.{padded_by}
 use Rattle.rows.proofs.key.Key.new.Goals as goal
