@@ -5,7 +5,7 @@ use Rattle.std.proofs.lemmas.List.{take_rest}
 use Rattle.questions.proofs.Pairs.{kept_none, kept_more}
 use Rattle.questions.proofs.picking.keep_best.Goals as goal
 
--- from the first on, all are left
+-- From the first on, all are left. The code goes over all as they are; with this a body that takes them from an index on is proved where that index is 0.
 from_first : {A : Type 0} (xs : List A) (k : ℕ) → k ≡ 0 → take (length xs - k) (drop k xs) ≡ xs
 from_first xs k none = take_rest xs k ∙ ap (λ n. drop n xs) none
 

@@ -24,6 +24,7 @@ pub returns-in_err-eight : goal.returns-in_err-eight
 unfolding read_number
 returns-in_err-eight c = rw c.from_residual.ensures (then_none _ (part_told 8 c.args.bytes.now None c.in_err-eight.ensures.cases))
 
+-- `take_rest` is for a body that cuts off the first eight bytes itself: it is proved, and one that cuts elsewhere is refused for that.
 pub returns : goal.returns
 unfolding read_number
 returns c =

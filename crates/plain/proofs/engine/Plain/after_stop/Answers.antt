@@ -5,6 +5,8 @@ use Rattle.reports.specs.Plain.{after_stop}
 use Rattle.plain.specs.View.{a_plain}
 use Rattle.plain.proofs.engine.Plain.after_stop.Goals as goal
 
+-- The code puts no document into a list that it has copied. `set-get_or` lets a body that puts one back into its own place be proved too, so that a wrong list is
+-- refused for what is in it.
 pub returns : goal.returns
 unfolding after_stop
 returns c =

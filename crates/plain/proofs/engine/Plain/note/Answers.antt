@@ -4,6 +4,8 @@ use Rattle.plain.proofs.Copies.{same_from_clones}
 use Rattle.reports.specs.Plain.{turn}
 use Rattle.plain.proofs.engine.Plain.note.Goals as goal
 
+-- The code puts no document into a list that it has copied. `set-get_or` lets a body that puts one back into its own place be proved too, so that a wrong list is
+-- refused for what is in it.
 pub returns : goal.returns
 unfolding turn
 returns c =

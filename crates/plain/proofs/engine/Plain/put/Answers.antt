@@ -1,9 +1,11 @@
-use Rattle.std.proofs.Common.{rules, ◌≡◌, map, vec_items, refl, ap, ◌∙◌, tests}
+use Rattle.std.proofs.Common.{◌≡◌, map, vec_items, refl, ap, ◌∙◌, rules, tests}
 use Rattle.reports.specs.Plain.{turn, named, others, put_doc}
 use Rattle.plain.specs.View.{changed, a_doc}
 use Rattle.plain.proofs.Copies.{same_from_clones}
 use Rattle.plain.proofs.engine.Plain.put.Goals as goal
 
+-- The code takes the others as they are parted. `same_from_clones` lets a body that takes a copy of them be proved too, so that other documents are refused
+-- for what they are.
 pub returns : goal.returns
 unfolding turn
 returns c =

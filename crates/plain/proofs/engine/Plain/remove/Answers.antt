@@ -20,6 +20,8 @@ returns-then-not-any c =
     let none : none_of (named c.args.name w.coming) ≡ true = none_unless_any p w.coming _ found ∙ ap not c.if-not-any.true in
     rw none record { reply = refl; shows = refl; next = refl }
 
+-- The code takes the others as they are parted. `same_from_clones` lets a body that takes a copy of them be proved too, so that other documents are refused
+-- for what they are.
 pub returns : goal.returns
 unfolding turn
 returns c =
